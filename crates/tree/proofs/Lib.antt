@@ -1,0 +1,4 @@
+-- laws
+pub mod Cases
+pub mod Levels
+pub mod Labels

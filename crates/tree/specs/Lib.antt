@@ -1,0 +1,3 @@
+-- definitions
+pub mod Level
+pub mod Label

@@ -1,0 +1,2 @@
+// The history tree: levels, labels, owners and waits of its nodes; its digests and covers.
+pub mod label;
