@@ -5,3 +5,7 @@ pub mod Levels
 pub mod Labels
 pub mod Agree
 pub mod Trees
+pub mod Cuts
+pub mod Covers
+pub mod ReadLaws
+pub mod Grows
