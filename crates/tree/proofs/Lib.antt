@@ -1,0 +1,11 @@
+-- laws
+pub mod Cases
+pub mod HashLength
+pub mod Levels
+pub mod Labels
+pub mod Agree
+pub mod Trees
+pub mod Cuts
+pub mod Covers
+pub mod ReadLaws
+pub mod Grows

@@ -1,0 +1,7 @@
+-- definitions
+pub mod Level
+pub mod Label
+pub mod Expr
+pub mod Tree
+pub mod Cover
+pub mod Table
