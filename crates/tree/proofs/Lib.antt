@@ -9,3 +9,4 @@ pub mod Cuts
 pub mod Covers
 pub mod ReadLaws
 pub mod Grows
+pub mod Messages

@@ -5,3 +5,4 @@ pub mod Expr
 pub mod Tree
 pub mod Cover
 pub mod Table
+pub mod Message
