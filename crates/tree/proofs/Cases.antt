@@ -35,3 +35,8 @@ same-test false false f g = refl
 pub and-true : (a b : Bool) → a && b ≡ true → (a ≡ true) × (b ≡ true)
 and-true true b e = (refl, e)
 and-true false b e = not-both false e refl
+
+-- a test that is not true is false
+pub untrue : (b : Bool) → (b ≡ true → ⊥) → b ≡ false
+untrue true n = absurd (n refl)
+untrue false n = refl

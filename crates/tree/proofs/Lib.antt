@@ -5,8 +5,10 @@ pub mod Levels
 pub mod Labels
 pub mod Agree
 pub mod Trees
+pub mod Tiles
 pub mod Cuts
 pub mod Covers
 pub mod ReadLaws
 pub mod Grows
 pub mod Messages
+pub mod Asked
