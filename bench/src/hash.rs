@@ -1,14 +1,15 @@
 //! SHA-256: the library's hash against plain Rust's.
-use crate::{library, plain, stack, timing};
+use crate::timing::Race;
+use crate::{library, plain, stack};
 use std::hint::black_box;
+
+const ROUNDS: usize = 1000;
 
 pub fn run() {
     println!("results: {} messages, the same from the library and from plain Rust", compare());
     println!("buffers: the message is filled once before the timing; the output buffer is not cleared between calls");
-    println!("compressions a second, best round and median round, and the library's over plain Rust's:");
-    for (name, length) in [("55 B", 55), ("64 B", 64), ("1 KiB", 1 << 10), ("1 MiB", 1 << 20)] {
-        time(name, length);
-    }
+    println!("compressions a second on the best round of each side, and the library's over plain Rust's:");
+    time(&[("55 B", 55), ("64 B", 64), ("1 KiB", 1 << 10), ("1 MiB", 1 << 20)]);
     println!("stack of a call, in bytes, its return address included:");
     for (name, length) in [("0 B", 0), ("55 B", 55), ("64 B", 64), ("1 KiB", 1 << 10)] {
         println!("  {name:>6}  {}", stack_of(length));
@@ -56,25 +57,36 @@ fn compare() -> usize {
     lengths.len()
 }
 
-fn time(name: &str, length: usize) {
-    let message = message(length, 1);
-    let mut ours = [0; 32];
-    let mut theirs = [0; 32];
-    let (library, plain) = timing::in_turns(
-        || {
-            library::sha256(black_box(&message), black_box(&mut ours));
-        },
-        || plain::sha256(black_box(&message), black_box(&mut theirs)),
-    );
-    let compressions = ((length + 8) / 64 + 1) as f64;
+/// The rounds go through all lengths again and again, so that a quiet moment of the machine serves each of them.
+fn time(subjects: &[(&str, usize)]) {
+    let messages: Vec<Vec<u8>> = subjects.iter().map(|subject| message(subject.1, 1)).collect();
+    let mut out = [0; 32];
+    let mut races: Vec<Race> =
+        messages.iter().map(|message| Race::new(|| plain::sha256(black_box(message), black_box(&mut out)))).collect();
+    let mut other = [0; 32];
+    for _ in 0..ROUNDS {
+        for (race, message) in races.iter_mut().zip(&messages) {
+            race.round(
+                || {
+                    library::sha256(black_box(message), black_box(&mut other));
+                },
+                || plain::sha256(black_box(message), black_box(&mut out)),
+            );
+        }
+    }
+    for (race, (name, length)) in races.iter().zip(subjects) {
+        print_race(name, ((length + 8) / 64 + 1) as f64, race);
+    }
+}
+
+fn print_race(name: &str, compressions: f64, race: &Race) {
+    let (library, plain) = race.best();
     println!(
-        "  {name:>6}  best: library {:>9.0}, plain {:>9.0}, ratio {:.3}   median: library {:>9.0}, plain {:>9.0}, ratio {:.3}",
-        compressions / library.best,
-        compressions / plain.best,
-        plain.best / library.best,
-        compressions / library.median,
-        compressions / plain.median,
-        plain.median / library.median,
+        "  {name:>6}  library {:>9.0}  plain {:>9.0}  ratio {:.3}  median of the rounds' ratios {:.3}",
+        compressions / library,
+        compressions / plain,
+        plain / library,
+        race.median_ratio(),
     );
 }
 

@@ -1,46 +1,50 @@
-//! Two sides timed in turns in one run, so that a change of the machine's pace meets both.
+//! Two sides timed in turns, in rounds so short that a change of the machine's pace meets both.
 use std::time::Instant;
 
-const ROUNDS: usize = 101;
-const ROUND_SECONDS: f64 = 0.005;
+const ROUND_SECONDS: f64 = 0.001;
 
-/// Seconds for one call, on the best round and on the median round.
-#[derive(Clone, Copy)]
-pub struct Pace {
-    pub best: f64,
-    pub median: f64,
+/// What was measured of two sides so far.
+pub struct Race {
+    calls: u32,
+    best: (f64, f64),
+    ratios: Vec<f64>,
 }
 
-impl Pace {
-    fn of(mut seconds: Vec<f64>) -> Pace {
-        seconds.sort_by(f64::total_cmp);
-        Pace { best: seconds[0], median: seconds[seconds.len() / 2] }
-    }
-}
-
-/// Many rounds of calls of each side, the two sides taking turns to go first.
-pub fn in_turns(mut first: impl FnMut(), mut second: impl FnMut()) -> (Pace, Pace) {
-    let calls = calls_for_a_round(&mut first);
-    let mut firsts = Vec::new();
-    let mut seconds = Vec::new();
-    for round in 0..ROUNDS {
-        if round % 2 == 0 {
-            firsts.push(seconds_for_a_call(calls, &mut first));
-            seconds.push(seconds_for_a_call(calls, &mut second));
-        } else {
-            seconds.push(seconds_for_a_call(calls, &mut second));
-            firsts.push(seconds_for_a_call(calls, &mut first));
+impl Race {
+    /// No round yet; a round is to have as many calls of each side as take a millisecond of the side given.
+    pub fn new(mut side: impl FnMut()) -> Race {
+        let mut calls = 1;
+        while seconds_for_a_call(calls, &mut side) * f64::from(calls) < ROUND_SECONDS {
+            calls *= 2;
         }
+        Race { calls, best: (f64::INFINITY, f64::INFINITY), ratios: Vec::new() }
     }
-    (Pace::of(firsts), Pace::of(seconds))
-}
 
-fn calls_for_a_round(f: &mut impl FnMut()) -> u32 {
-    let mut calls = 1;
-    while seconds_for_a_call(calls, f) * f64::from(calls) < ROUND_SECONDS {
-        calls *= 2;
+    /// One round: calls of the one side and then of the other, which take turns to go first.
+    pub fn round(&mut self, mut first: impl FnMut(), mut second: impl FnMut()) {
+        let (a, b);
+        if self.ratios.len() & 1 == 0 {
+            a = seconds_for_a_call(self.calls, &mut first);
+            b = seconds_for_a_call(self.calls, &mut second);
+        } else {
+            b = seconds_for_a_call(self.calls, &mut second);
+            a = seconds_for_a_call(self.calls, &mut first);
+        }
+        self.best = (self.best.0.min(a), self.best.1.min(b));
+        self.ratios.push(b / a);
     }
-    calls
+
+    /// Seconds for a call of the first side and of the second, each on its best round.
+    pub fn best(&self) -> (f64, f64) {
+        self.best
+    }
+
+    /// The second side's time over the first's in the same round: the median of the rounds.
+    pub fn median_ratio(&self) -> f64 {
+        let mut ratios = self.ratios.clone();
+        ratios.sort_by(f64::total_cmp);
+        ratios[ratios.len() / 2]
+    }
 }
 
 fn seconds_for_a_call(calls: u32, f: &mut impl FnMut()) -> f64 {
