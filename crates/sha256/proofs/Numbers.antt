@@ -1,14 +1,15 @@
 -- Big-endian numbers of two, four and eight bytes, written out as the functions compute them.
 use mathlib.Core.Path.{_≡_, _∙_, sym, ap}
+use mathlib.Core.Bool.{true}
 use mathlib.Core.List.{List, [], _∷_, _++_}
 use Prim.Native.Nat.{ℕ, suc, _+_, _-_, _*_, _/_, _%_, _≤_, _<_}
 use native.Mathlib.Nat.{div-one, add-zero}
 use native.Mathlib.Numerals.{add-one}
 use native.Mathlib.Omega.{arith}
 use lib.ListN.{length, take, drop, getD, set, length-drop, drop-of-length-le}
-use lib.Seq.{take-all, take-length, drop-length, getD-drop, paste, paste-suc}
-use Rattle.sha256.specs.Bytes.{be, numberAt, written}
-use Rattle.sha256.proofs.Laws.{written-fits}
+use lib.Seq.{take-all, take-suc, take-length, drop-length, getD-drop, paste, paste-suc}
+use Rattle.sha256.specs.Bytes.{be, numberAt, written, eqs}
+use Rattle.sha256.proofs.Laws.{written-fits, eqs-refl}
 
 pub be-two : (x : ℕ) → be 2 x ≡ x / 256 % 256 ∷ x % 256 ∷ []
 unfolding be
@@ -60,3 +61,13 @@ number-four-from s i =
 pub copy-more : (d e : List ℕ) (at : ℕ) (s : List ℕ) (j : ℕ) → at + j < length d → j < length s → e ≡ paste d at s j
     → set e (at + j) (getD s j 0) ≡ paste d at s (j + 1)
 copy-more d e at s j h g p = rw (p, add-one) (paste-suc d at s j 0 h g)
+
+-- one turn of the comparing loop, and its end
+pub same-more : (a b : List ℕ) (i : ℕ) → i < length a → i < length b → take i a ≡ take i b → getD a i 0 ≡ getD b i 0
+    → take (i + 1) a ≡ take (i + 1) b
+same-more a b i ha hb e g = rw (add-one, take-suc a i 0 ha, take-suc b i 0 hb, e, g)
+
+pub all-same : (a b : List ℕ) (i : ℕ) → length a ≡ i → length b ≡ i → take i a ≡ take i b → true ≡ eqs a b
+all-same a b i ea eb e =
+    let h : a ≡ b = sym (take-all i a (omega arith)) ∙ e ∙ take-all i b (omega arith) in
+    rw h (sym (eqs-refl b))

@@ -1,9 +1,10 @@
 // Bytes and big-endian numbers: reads that answer past the end too, and the one function that copies.
 ghost use mathlib.Core.Path.{_≡_};
+ghost use mathlib.Core.List.{_++_};
 ghost use Prim.Native.Nat.{_+_, _*_, _≤_};
 ghost use lib.ListN.{length, take, drop, getD};
 ghost use lib.Seq.{paste};
-ghost use Rattle.sha256.specs.Bytes.{be, numberAt, written};
+ghost use Rattle.sha256.specs.Bytes.{be, numberAt, written, eqs};
 
 // The byte at i, 0 past the end.
 pub fn byte_at(s: &[u8], i: usize) -> u8
@@ -95,6 +96,41 @@ pub fn put(d: &mut [u8], at: usize, src: &[u8])
             copy(d, at, src);
         }
     }
+}
+
+// Copies first and then second, one after the other, to place `at` of d. Where they do not fit whole, d keeps its contents.
+pub fn put2(d: &mut [u8], at: usize, first: &[u8], second: &[u8])
+    ensures { λ _. ⌜ now (d .exit) ≡ written (now (d .entry)) at (now (first .entry) ++ now (second .entry)) ⌝ }
+{
+    if d.len() < at {
+        return;
+    }
+    let room = d.len() - at;
+    if room < first.len() {
+        return;
+    }
+    if room - first.len() < second.len() {
+        return;
+    }
+    put(d, at, first);
+    put(d, at + first.len(), second);
+}
+
+// Whether a and b hold the same bytes.
+pub fn same(a: &[u8], b: &[u8]) -> bool
+    ensures { λ r. ⌜ r ≡ eqs (now (a .entry)) (now (b .entry)) ⌝ }
+{
+    if a.len() != b.len() {
+        return false;
+    }
+    let mut i = 0;
+    while i < a.len() {
+        if a[i] != b[i] {
+            return false;
+        }
+        i += 1;
+    }
+    true
 }
 
 // The copying loop behind `put`.
