@@ -1,6 +1,9 @@
--- definitions
+-- SHA-256 as FIPS 180-4 defines it, over lists of numbers: a byte is a number below 256, a word one below 2^32.
 pub mod Bytes
 pub mod Word
 pub mod Constants
 pub mod Block
+pub mod Window
 pub mod Hash
+pub mod Stream
+pub mod Examples
