@@ -1,17 +1,18 @@
 -- A signature's chains, run on by the check, end where the key's chains end.
-use mathlib.Core.Path.{_≡_, refl, _∙_, sym, ap}
+use mathlib.Core.Path.{_≡_, refl, _∙_}
 use mathlib.Core.List.{List, _++_}
-use Prim.Native.Nat.{ℕ, zero, suc, _+_, _-_, _*_, _/_, _%_, _^_, _≤_, _<_}
+use Prim.Native.Nat.{ℕ, zero, suc, _+_, _-_, _*_, _^_, _≤_, _<_}
 use native.Mathlib.Nat.{add-zero, zero-add, add-suc, mod-lt}
 use native.Mathlib.Numerals.{add-one}
 use native.Mathlib.Omega.{arith}
 use lib.Pow.{pow-pos, le-ones}
-use lib.ListN.{length, take, drop, getD}
+use lib.ListN.{length, take, drop}
 use Rattle.sha256.specs.Hash.{sha256}
-use Rattle.lms.specs.Types.{Ots, u8str, cat, prefix}
-use Rattle.lms.specs.Ots.{coef, digit, chain, secret, endsHash, K, opened, closed, textHash, Kc}
-use Rattle.lms.proofs.HashLaws.{sha256-length}
-use Rattle.lms.proofs.Parts.{cat-equal, cat-length, cat-part}
+use Rattle.lms.specs.Types.{u8str, cat, prefix}
+use Rattle.lms.specs.declared.Ots.{Ots}
+use Rattle.lms.specs.Ots.{coef, digit, chain, secret, endsHash, chainEnd, K, opened, closed, textHash, Kc}
+use Rattle.sha256.proofs.Hashes.{sha256-length}
+use Rattle.lms.proofs.Parts.{cat-equal, cat-part}
 
 pub chain-more : (m x : List ℕ) (a k : ℕ) → chain m a (k + 1) x ≡ sha256 (m ++ u8str (a + k) ++ chain m a k x)
 unfolding chain
@@ -47,8 +48,8 @@ opened-is o I SEED q Q i = refl
 
 -- the chain that Algorithm 3 opens at i, Algorithm 4b runs to its end
 closed-end : (o : Ots) (I SEED : List ℕ) (q : ℕ) (Q rest : List ℕ) (i : ℕ) → i < o .p
-    → closed o I q Q (cat (opened o I SEED q Q) (o .p) ++ rest) i ≡ chain (prefix I q i) 0 (2 ^ o .w - 1) (secret I SEED q i)
-unfolding closed
+    → closed o I q Q (cat (opened o I SEED q Q) (o .p) ++ rest) i ≡ chainEnd o I SEED q i
+unfolding closed chainEnd
 closed-end o I SEED q Q rest i g =
     let s : take 32 (drop (32 * i) (cat (opened o I SEED q Q) (o .p) ++ rest)) ≡ chain (prefix I q i) 0 (digit o Q i) (secret I SEED q i) =
     cat-part (opened o I SEED q Q) (o .p) (λ j _. opened-length o I SEED q Q j) (o .p) i rest (omega arith) g ∙ opened-is o I SEED q Q i in

@@ -1,24 +1,24 @@
 -- The nodes of a tree, and the path from a leaf to the root.
-use mathlib.Core.Path.{_≡_, refl, _∙_, sym, ap, ap₂}
-use mathlib.Core.Bool.{Bool, true, false, cond}
+use mathlib.Core.Path.{_≡_, _∙_, sym, ap, ap₂}
 use mathlib.Core.List.{List, [], _++_, append-nil}
-use mathlib.Core.Logic.{⊎-elim, _⊎_, inl, inr}
+use mathlib.Core.Logic.{⊎-elim, _⊎_}
 use Prim.Native.Nat.{ℕ, zero, suc, _+_, _-_, _*_, _/_, _%_, _^_, _≤_, _<_}
 use native.Mathlib.Nat.{pow-suc, mul-assoc, add-mul, one-mul, le-div-iff-mul-le, eq-or-lt-of-le, div-one}
 use native.Mathlib.Numerals.{add-one}
 use native.Mathlib.Omega.{arith}
-use borrow.Author.Tests.{leb-true, leb-false, le-leb, lt-leb, eq-eqb, ne-eqb}
+use borrow.Author.Tests.{le-leb, lt-leb, eq-eqb, ne-eqb}
 use lib.Bits.{bitXor, differ, xor-step, xor-zero-r}
-use lib.Dec.{leb}
 use lib.Pow.{pow-pos, pow-mono, shr-shr, shr-le, high}
-use lib.ListN.{length, take, drop, length-append, length-drop}
+use lib.ListN.{length, take, drop, length-drop}
 use lib.Seq.{length-take-le}
-use Rattle.lms.specs.Types.{Ots, cat}
+use Rattle.lms.specs.Types.{cat}
+use Rattle.lms.specs.declared.Ots.{Ots}
 use Rattle.lms.specs.Ots.{K}
-use Rattle.lms.specs.Tree.{leaf, inner, nodeWithin, T, treeBytes, treeSize}
+use Rattle.lms.specs.Tree.{leaf, inner, nodeOver, nodeWithin, T, treeBytes, treeSize}
 use Rattle.lms.specs.Signature.{nodeAt, pathNode, path}
 use Rattle.lms.specs.Check.{above, climb}
-use Rattle.lms.proofs.HashLaws.{sha256-length}
+use Rattle.sha256.proofs.Cases.{cases-lt}
+use Rattle.sha256.proofs.Hashes.{sha256-length}
 use Rattle.lms.proofs.Parts.{cat-length, cat-part}
 
 leaf-length : (I key : List ℕ) (r : ℕ) → length (leaf I r key) ≡ 32
@@ -34,21 +34,13 @@ node-whole : (tree : List ℕ) (h r : ℕ) → treeSize h ≤ length tree → 0 
 unfolding nodeAt treeSize
 node-whole tree h r l lo hi = length-take-le 32 (drop (32 * (r - 1)) tree) (simp length-drop (omega arith))
 
-split : (a b : ℕ) (t : Bool) → leb a b ≡ t → (a ≤ b) ⊎ (b < a)
-split a b true e = inl (leb-true a b e)
-split a b false e = inr (leb-false a b e)
-
--- a number is at least a bound, or below it
-reaches : (a b : ℕ) → (a ≤ b) ⊎ (b < a)
-reaches a b = split a b (leb a b) refl
-
 module _ (o : Ots) (h : ℕ) (I SEED : List ℕ) where
   abbrev within : ℕ → ℕ → List ℕ
   within n r = nodeWithin n o h I SEED r
 
   -- levels beyond those that reach the leaves change nothing
   one-more-level : (n r : ℕ) → 2 ^ h ≤ r * 2 ^ n → within (suc n) r ≡ within (suc (suc n)) r
-  unfolding nodeWithin
+  unfolding nodeWithin nodeOver
   one-more-level zero r g = let le : 2 ^ h ≤ r = omega arith in rw (le-leb (2 ^ h) r le)
   one-more-level (suc n) r g =
       let d : r * 2 ^ suc n ≡ r * 2 ^ n * 2 = ap (λ (x : ℕ). r * x) (pow-suc 2 n) ∙ sym (mul-assoc r (2 ^ n) 2) in
@@ -56,14 +48,13 @@ module _ (o : Ots) (h : ℕ) (I SEED : List ℕ) where
       let b : (2 * r + 1) * 2 ^ n ≡ 2 * r * 2 ^ n + 1 * 2 ^ n = add-mul (2 * r) 1 (2 ^ n) in
       let left : 2 ^ h ≤ 2 * r * 2 ^ n = omega arith in
       let right : 2 ^ h ≤ (2 * r + 1) * 2 ^ n = omega arith in
-      ⊎-elim
-      (λ (le : 2 ^ h ≤ r). rw (le-leb (2 ^ h) r le))
-      (λ (lt : r < 2 ^ h). rw (lt-leb (2 ^ h) r lt) (ap₂ (inner I r) (one-more-level n (2 * r) left) (one-more-level n (2 * r + 1) right)))
-      (reaches (2 ^ h) r)
+      cases-lt r (2 ^ h)
+      (λ lt. rw (lt-leb (2 ^ h) r lt) (ap₂ (inner I r) (one-more-level n (2 * r) left) (one-more-level n (2 * r + 1) right)))
+      (λ le. rw (le-leb (2 ^ h) r le))
 
   -- one case of section 5.3 for a node within reach of the leaves
   reaching : (n r : ℕ) → 2 ^ h ≤ r * 2 ^ n → r < 2 ^ h → within (suc n) r ≡ inner I r (within (suc n) (2 * r)) (within (suc n) (2 * r + 1))
-  unfolding nodeWithin
+  unfolding nodeWithin nodeOver
   reaching zero r g lt = absurd (omega arith)
   reaching (suc n) r g lt =
       let d : r * 2 ^ suc n ≡ r * 2 ^ n * 2 = ap (λ (x : ℕ). r * x) (pow-suc 2 n) ∙ sym (mul-assoc r (2 ^ n) 2) in
@@ -73,7 +64,7 @@ module _ (o : Ots) (h : ℕ) (I SEED : List ℕ) where
 
   -- section 5.3: the case r >= 2^h, and the other
   pub at-leaf : (r : ℕ) → 2 ^ h ≤ r → T o h I SEED r ≡ leaf I r (K o I SEED (r - 2 ^ h))
-  unfolding T nodeWithin
+  unfolding T nodeWithin nodeOver
   at-leaf r g = rw (le-leb (2 ^ h) r g)
 
   pub at-inner : (r : ℕ) → 0 < r → r < 2 ^ h → T o h I SEED r ≡ inner I r (T o h I SEED (2 * r)) (T o h I SEED (2 * r + 1))
@@ -84,12 +75,9 @@ module _ (o : Ots) (h : ℕ) (I SEED : List ℕ) where
       reaching h r (omega arith) lt
 
   pub node-length : (r : ℕ) → length (T o h I SEED r) ≡ 32
-  unfolding T nodeWithin
+  unfolding T nodeWithin nodeOver
   node-length r =
-      ⊎-elim
-      (λ (le : 2 ^ h ≤ r). rw (le-leb (2 ^ h) r le) (leaf-length I _ r))
-      (λ (lt : r < 2 ^ h). rw (lt-leb (2 ^ h) r lt) (inner-length I _ _ r))
-      (reaches (2 ^ h) r)
+      cases-lt r (2 ^ h) (λ lt. rw (lt-leb (2 ^ h) r lt) (inner-length I _ _ r)) (λ le. rw (le-leb (2 ^ h) r le) (leaf-length I _ r))
 
   pub tree-length : length (treeBytes o h I SEED) ≡ treeSize h
   unfolding treeBytes treeSize

@@ -1,8 +1,8 @@
 -- What is signed is accepted: the parts of a key and of a signature are read back as they were written.
 use mathlib.Core.Path.{_≡_, refl, _∙_, sym, ap}
-use mathlib.Core.Bool.{true, cond, _&&_}
-use mathlib.Core.List.{List, [], _∷_, _++_, append-assoc}
-use Prim.Native.Nat.{ℕ, suc, _+_, _-_, _*_, _/_, _^_, _≤_, _<_}
+use mathlib.Core.Bool.{true}
+use mathlib.Core.List.{List, _++_, append-assoc}
+use Prim.Native.Nat.{ℕ, _+_, _-_, _*_, _^_, _≤_, _<_}
 use native.Mathlib.Nat.{add-zero}
 use native.Mathlib.Omega.{arith}
 use borrow.Author.Tests.{eq-eqb, lt-ltb}
@@ -10,15 +10,17 @@ use lib.Pow.{pow-mono}
 use lib.ListN.{length, take, drop, length-append}
 use lib.Seq.{take-at, drop-at, drop-drop}
 use Rattle.sha256.specs.Bytes.{numberAt}
-use Rattle.lms.specs.Types.{Ots, Lms, u32str, cat, prefix}
-use Rattle.lms.specs.Ots.{K, Kc, textHash, opened, otsSignature}
+use Rattle.lms.specs.Types.{u32str, cat, prefix}
+use Rattle.lms.specs.declared.Ots.{Ots}
+use Rattle.lms.specs.declared.Lms.{Lms}
+use Rattle.lms.specs.Ots.{K, textHash, opened, otsSignature}
 use Rattle.lms.specs.Tree.{leaf, T, treeBytes, treeSize, publicKey}
 use Rattle.lms.specs.Signature.{path, signature}
-use Rattle.lms.specs.Check.{climb, Tc, keyFits, typePlace, signatureSize, signatureFits, rootOf, same, checkOf}
+use Rattle.lms.specs.Check.{Tc, keyFits, typePlace, signatureSize, signatureFits, rootOf, checkOf}
 use Rattle.lms.specs.Claims.{Set, RoundTrip, SignatureLength, TextHashed}
-use Rattle.lms.specs.declared.Checked.{Checked}
-use Rattle.lms.proofs.HashLaws.{be-length, number-be}
-use Rattle.lms.proofs.Parts.{number-from, cat-length, same-itself}
+use Rattle.sha256.proofs.Words.{number-drop}
+use Rattle.sha256.proofs.Laws.{be-length, number-be, eqs-refl}
+use Rattle.lms.proofs.Parts.{cat-length}
 use Rattle.lms.proofs.Chains.{opened-length, opened-closes}
 use Rattle.lms.proofs.Nodes.{at-leaf, node-length, tree-length, path-length, path-leads-to-root}
 
@@ -33,19 +35,19 @@ behind s x y n c e l = sym (drop-drop c n s) ∙ ap (drop c) e ∙ drop-at x y c
 -- the number of four bytes at n
 number-there : (s rest : List ℕ) (n x : ℕ) → drop n s ≡ u32str x ++ rest → x < 2 ^ 32 → numberAt 4 s n ≡ x
 number-there s rest n x e f =
-    ap (numberAt 4 s) (sym (add-zero n)) ∙ number-from 4 s n 0 ∙ ap (λ (y : List ℕ). numberAt 4 y 0) e ∙ number-be 4 x rest f
+    ap (numberAt 4 s) (sym (add-zero n)) ∙ sym (number-drop 4 s n 0) ∙ ap (λ (y : List ℕ). numberAt 4 y 0) e ∙ number-be 4 x rest f
 
 -- the parts of a public key
 module _ (o : Ots) (l : Lms) (I root : List ℕ) (li : length I ≡ 16) where
   abbrev key : List ℕ
   key = publicKey o l I root
 
-  key-from-0 : key ≡ u32str (l .type) ++ (u32str (o .otstype) ++ (I ++ root))
+  key-from-0 : key ≡ u32str (l .lmstype) ++ (u32str (o .otstype) ++ (I ++ root))
   unfolding publicKey
   key-from-0 = simp append-assoc
 
   key-from-4 : drop 4 key ≡ u32str (o .otstype) ++ (I ++ root)
-  key-from-4 = behind key (u32str (l .type)) _ 0 4 key-from-0 (be-length 4 (l .type))
+  key-from-4 = behind key (u32str (l .lmstype)) _ 0 4 key-from-0 (be-length 4 (l .lmstype))
 
   key-from-8 : drop 8 key ≡ I ++ root
   key-from-8 = behind key (u32str (o .otstype)) _ 4 4 key-from-4 (be-length 4 (o .otstype))
@@ -59,14 +61,14 @@ module _ (o : Ots) (l : Lms) (I root : List ℕ) (li : length I ≡ 16) where
   pub key-length : length root ≡ 32 → length key ≡ 56
   key-length lr =
       ap length key-from-0
-      ∙ simp length-append (omega (arith, be-length 4 (l .type), be-length 4 (o .otstype)))
+      ∙ simp length-append (omega (arith, be-length 4 (l .lmstype), be-length 4 (o .otstype)))
 
   key-fits : Set o l → length root ≡ 32 → keyFits o l key ≡ true
   unfolding keyFits
   key-fits set lr =
       rw (
         eq-eqb (length key) 56 (key-length lr),
-        eq-eqb (numberAt 4 key 0) (l .type) (number-there key _ 0 (l .type) key-from-0 (set .type-fits)),
+        eq-eqb (numberAt 4 key 0) (l .lmstype) (number-there key _ 0 (l .lmstype) key-from-0 (set .type-fits)),
         eq-eqb (numberAt 4 key 4) (o .otstype) (number-there key _ 4 (o .otstype) key-from-4 (set .ots-fits)),
       )
 
@@ -80,7 +82,7 @@ module _ (o : Ots) (l : Lms) (I SEED C message tree : List ℕ) (q : ℕ) (lc : 
   y = cat (opened o I SEED q (textHash I q C message)) (o .p)
 
   abbrev end : List ℕ
-  end = u32str (l .type) ++ path (l .h) tree q
+  end = u32str (l .lmstype) ++ path (l .h) tree q
 
   y-length : length y ≡ 32 * o .p
   y-length =
@@ -106,7 +108,7 @@ module _ (o : Ots) (l : Lms) (I SEED C message tree : List ℕ) (q : ℕ) (lc : 
       rw e (behind sig y end 40 (32 * o .p) sig-from-40 y-length)
 
   sig-from-path : drop (typePlace o + 4) sig ≡ path (l .h) tree q
-  sig-from-path = behind sig (u32str (l .type)) _ (typePlace o) 4 sig-from-type (be-length 4 (l .type))
+  sig-from-path = behind sig (u32str (l .lmstype)) _ (typePlace o) 4 sig-from-type (be-length 4 (l .lmstype))
 
   sig-randomizer : take 32 (drop 8 sig) ≡ C
   sig-randomizer = rw sig-from-8 (take-at C (y ++ end) 32 lc)
@@ -116,7 +118,7 @@ module _ (o : Ots) (l : Lms) (I SEED C message tree : List ℕ) (q : ℕ) (lc : 
   sig-length =
       ap length sig-from-0
       ∙ simp length-append
-      (omega (arith, be-length 4 q, be-length 4 (o .otstype), y-length, be-length 4 (l .type), path-length (l .h) q few tree whole))
+      (omega (arith, be-length 4 q, be-length 4 (o .otstype), y-length, be-length 4 (l .lmstype), path-length (l .h) q few tree whole))
 
   module _ (set : Set o l) where
     small : q < 2 ^ 32
@@ -132,7 +134,7 @@ module _ (o : Ots) (l : Lms) (I SEED C message tree : List ℕ) (q : ℕ) (lc : 
         rw (
           eq-eqb (length sig) (signatureSize o l) sig-length,
           eq-eqb (numberAt 4 sig 4) (o .otstype) (number-there sig _ 4 (o .otstype) sig-from-4 (set .ots-fits)),
-          eq-eqb (numberAt 4 sig (typePlace o)) (l .type) (number-there sig _ (typePlace o) (l .type) sig-from-type (set .type-fits)),
+          eq-eqb (numberAt 4 sig (typePlace o)) (l .lmstype) (number-there sig _ (typePlace o) (l .lmstype) sig-from-type (set .type-fits)),
           lt-ltb (numberAt 4 sig 0) (2 ^ l .h) n,
         )
 
@@ -166,5 +168,5 @@ round-trip o l set I SEED C message rest q li lc few =
       sig-from-40 o l I SEED C message (treeBytes o (l .h) I SEED ++ rest) q lc few whole,
       sig-from-path o l I SEED C message (treeBytes o (l .h) I SEED ++ rest) q lc few whole,
       root-found o l I SEED C message _ rest q few,
-      same-itself (T o (l .h) I SEED 1),
+      eqs-refl (T o (l .h) I SEED 1),
     )

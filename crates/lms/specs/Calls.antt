@@ -1,11 +1,12 @@
 -- What the entry points answer and write. A call that is refused writes nothing.
-use mathlib.Core.Bool.{Bool, cond, _&&_}
+use mathlib.Core.Bool.{cond, _&&_}
 use mathlib.Core.List.{List}
 use Prim.Native.Nat.{ℕ, _^_}
 use lib.Dec.{leb, ltb, eqb}
 use lib.ListN.{length}
 use Rattle.sha256.specs.Bytes.{written}
-use Rattle.lms.specs.Types.{Ots, Lms}
+use Rattle.lms.specs.declared.Ots.{Ots}
+use Rattle.lms.specs.declared.Lms.{Lms}
 use Rattle.lms.specs.Tree.{treeBytes, treeSize, publicKey}
 use Rattle.lms.specs.Signature.{nodeAt, signature}
 use Rattle.lms.specs.Check.{signatureSize}

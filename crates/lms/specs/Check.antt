@@ -1,21 +1,15 @@
 -- RFC 8554, section 5.4.2: the check of a signature, Algorithms 6 and 6a.
-use mathlib.Core.Bool.{Bool, true, false, cond, _&&_}
-use mathlib.Core.List.{List, [], _∷_}
+use mathlib.Core.Bool.{Bool, cond, _&&_}
+use mathlib.Core.List.{List}
 use Prim.Native.Nat.{ℕ, zero, suc, _+_, _*_, _/_, _%_, _^_}
 use lib.Dec.{eqb, ltb}
 use lib.ListN.{length, take, drop}
-use Rattle.sha256.specs.Bytes.{numberAt}
-use Rattle.lms.specs.Types.{Ots, Lms}
+use Rattle.sha256.specs.Bytes.{numberAt, eqs}
+use Rattle.lms.specs.declared.Ots.{Ots}
+use Rattle.lms.specs.declared.Lms.{Lms}
 use Rattle.lms.specs.Ots.{Kc}
 use Rattle.lms.specs.Tree.{leaf, inner}
 use Rattle.lms.specs.declared.Checked.{Checked}
-
--- Whether two strings are equal.
-unfoldable pub same : List ℕ → List ℕ → Bool
-same [] [] = true
-same [] (y ∷ ys) = false
-same (x ∷ xs) [] = false
-same (x ∷ xs) (y ∷ ys) = eqb x y && same xs ys
 
 -- Algorithm 6a, step 4, one turn: the node above node_num, from tmp and path[i].
 unfoldable pub above : List ℕ → ℕ → List ℕ → List ℕ → List ℕ
@@ -34,7 +28,7 @@ Tc o h I q C y path message = climb I path (2 ^ h + q) (leaf I (2 ^ h + q) (Kc o
 
 -- Algorithm 6, steps 1 and 2: the key is of the set's types and exactly 24 + m bytes long.
 unfoldable pub keyFits : Ots → Lms → List ℕ → Bool
-keyFits o l key = eqb (length key) (24 + 32) && (eqb (numberAt 4 key 0) (l .type) && eqb (numberAt 4 key 4) (o .otstype))
+keyFits o l key = eqb (length key) (24 + 32) && (eqb (numberAt 4 key 0) (l .lmstype) && eqb (numberAt 4 key 4) (o .otstype))
 
 -- Algorithm 6a, 2 f: where the signature's own type stands.
 unfoldable pub typePlace : Ots → ℕ
@@ -48,7 +42,7 @@ signatureSize o l = 12 + 32 * (o .p + 1) + 32 * l .h
 unfoldable pub signatureFits : Ots → Lms → List ℕ → Bool
 signatureFits o l s =
     eqb (length s) (signatureSize o l)
-    && (eqb (numberAt 4 s 4) (o .otstype) && (eqb (numberAt 4 s (typePlace o)) (l .type) && ltb (numberAt 4 s 0) (2 ^ l .h)))
+    && (eqb (numberAt 4 s 4) (o .otstype) && (eqb (numberAt 4 s (typePlace o)) (l .lmstype) && ltb (numberAt 4 s 0) (2 ^ l .h)))
 
 -- Algorithm 6, step 3: Tc from the parts of key and signature: I; q, C, y, path.
 unfoldable pub rootOf : Ots → Lms → List ℕ → List ℕ → List ℕ → List ℕ
@@ -58,6 +52,6 @@ rootOf o l key message s =
 -- Algorithm 6: VALID with the number q that was used, or INVALID.
 unfoldable pub checkOf : Ots → Lms → List ℕ → List ℕ → List ℕ → Checked
 checkOf o l key message s =
-    cond (keyFits o l key && (signatureFits o l s && same (rootOf o l key message s) (drop 24 key)))
+    cond (keyFits o l key && (signatureFits o l s && eqs (rootOf o l key message s) (drop 24 key)))
     (Checked.Number (numberAt 4 s 0))
     Checked.No

@@ -4,7 +4,9 @@ use mathlib.Core.List.{List, _++_}
 use Prim.Native.Nat.{ℕ, _^_, _<_, _≤_}
 use lib.ListN.{length}
 use Rattle.sha256.specs.Hash.{sha256}
-use Rattle.lms.specs.Types.{Ots, Lms, u16str, u32str, D_MESG}
+use Rattle.lms.specs.Types.{u16str, u32str, D_MESG}
+use Rattle.lms.specs.declared.Ots.{Ots}
+use Rattle.lms.specs.declared.Lms.{Lms}
 use Rattle.lms.specs.Ots.{textHash}
 use Rattle.lms.specs.Tree.{T, treeBytes, treeSize, publicKey}
 use Rattle.lms.specs.Signature.{signature}
@@ -14,7 +16,7 @@ use Rattle.lms.specs.declared.Checked.{Checked}
 -- Types and numbers fit the four bytes that a key and a signature have for each. Every row of the RFC's tables does.
 pub record Set (o : Ots) (l : Lms) : Type 0 where
   pub ots-fits : o .otstype < 2 ^ 32
-  pub type-fits : l .type < 2 ^ 32
+  pub type-fits : l .lmstype < 2 ^ 32
   pub numbers-fit : l .h ≤ 32
 
 -- The signature made with the generated key's tree is accepted under its public key, with its number, whatever follows the tree in its buffer.

@@ -1,4 +1,5 @@
 -- RFC 8554, Leighton-Micali hash-based signatures, by its sections
+
 pub mod Types
 pub mod Ots
 pub mod Tree

@@ -1,9 +1,10 @@
 -- RFC 8554, section 4 and appendix A: one-time keys and signatures.
-use mathlib.Core.List.{List, [], _++_}
+use mathlib.Core.List.{List, _++_}
 use Prim.Native.Nat.{ℕ, zero, suc, _+_, _-_, _*_, _/_, _%_, _^_}
 use lib.ListN.{getD, take, drop}
 use Rattle.sha256.specs.Hash.{sha256}
-use Rattle.lms.specs.Types.{Ots, u8str, u16str, u32str, cat, prefix, D_PBLC, D_MESG}
+use Rattle.lms.specs.Types.{u8str, u16str, u32str, cat, prefix, D_PBLC, D_MESG}
+use Rattle.lms.specs.declared.Ots.{Ots}
 
 -- Section 3.1.3: coef(S, i, w) = (2^w - 1) AND ( byte(S, floor(i * w / 8)) >> (8 - (w * (i % (8 / w)) + w)) )
 unfoldable pub coef : List ℕ → ℕ → ℕ → ℕ
@@ -35,9 +36,13 @@ secret I SEED q i = sha256 (prefix I q i ++ u8str 0xff ++ SEED)
 unfoldable pub endsHash : Ots → List ℕ → ℕ → (ℕ → List ℕ) → List ℕ
 endsHash o I q y = sha256 (prefix I q D_PBLC ++ cat y (o .p))
 
--- Section 4.3, Algorithm 1: K of key q, from chains run to their ends.
+-- Section 4.3, Algorithm 1: y[i] of key q, the chain run from its secret string to its end.
+unfoldable pub chainEnd : Ots → List ℕ → List ℕ → ℕ → ℕ → List ℕ
+chainEnd o I SEED q i = chain (prefix I q i) 0 (2 ^ o .w - 1) (secret I SEED q i)
+
+-- Section 4.3, Algorithm 1: K of key q.
 unfoldable pub K : Ots → List ℕ → List ℕ → ℕ → List ℕ
-K o I SEED q = endsHash o I q (λ i. chain (prefix I q i) 0 (2 ^ o .w - 1) (secret I SEED q i))
+K o I SEED q = endsHash o I q (chainEnd o I SEED q)
 
 -- Algorithms 3 and 4b: Q = H(I || u32str(q) || u16str(D_MESG) || C || message)
 unfoldable pub textHash : List ℕ → ℕ → List ℕ → List ℕ → List ℕ

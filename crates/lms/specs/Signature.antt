@@ -3,7 +3,9 @@ use mathlib.Core.List.{List, _++_}
 use Prim.Native.Nat.{ℕ, _+_, _-_, _*_, _/_, _^_}
 use lib.Bits.{bitXor}
 use lib.ListN.{take, drop}
-use Rattle.lms.specs.Types.{Ots, Lms, u32str, cat}
+use Rattle.lms.specs.Types.{u32str, cat}
+use Rattle.lms.specs.declared.Ots.{Ots}
+use Rattle.lms.specs.declared.Lms.{Lms}
 use Rattle.lms.specs.Ots.{otsSignature}
 
 -- T[r] out of the bytes of a tree, whose first node is T[1].
@@ -21,4 +23,4 @@ path h tree q = cat (λ i. nodeAt tree (pathNode h q i)) h
 -- Algorithm 5: u32str(q) || lmots_signature || u32str(type) || path[0] || .. || path[h-1]
 unfoldable pub signature : Ots → Lms → List ℕ → List ℕ → ℕ → List ℕ → List ℕ → List ℕ → List ℕ
 signature o l I SEED q C message tree =
-    u32str q ++ otsSignature o I SEED q C message ++ u32str (l .type) ++ path (l .h) tree q
+    u32str q ++ otsSignature o I SEED q C message ++ u32str (l .lmstype) ++ path (l .h) tree q

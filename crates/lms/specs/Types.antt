@@ -1,8 +1,10 @@
 -- RFC 8554: strings of numbers, the parameter sets' tables, the values that tell the hashed strings apart.
 -- The hash is SHA-256 and n = m = 32 in each set named here.
 use mathlib.Core.List.{List, [], _++_}
-use Prim.Native.Nat.{ℕ, zero, suc}
+use Prim.Native.Nat.{ℕ, zero, suc, _<_, _≤_}
 use Rattle.sha256.specs.Bytes.{be}
+use Rattle.lms.specs.declared.Ots.{Ots}
+use Rattle.lms.specs.declared.Lms.{Lms}
 
 -- Section 3.1.1: u8str, u16str and u32str, the number's bytes in network order.
 abbrev pub u8str : ℕ → List ℕ
@@ -19,13 +21,7 @@ unfoldable pub cat : (ℕ → List ℕ) → ℕ → List ℕ
 cat S zero = []
 cat S (suc i) = cat S i ++ S i
 
--- Section 4.1, Table 1: a row, with n = 32.
-pub record Ots : Type 0 where
-  pub otstype : ℕ
-  pub w : ℕ
-  pub p : ℕ
-  pub ls : ℕ
-
+-- Section 4.1, Table 1, with n = 32.
 abbrev pub LMOTS_SHA256_N32_W1 : Ots
 LMOTS_SHA256_N32_W1 = record { otstype = 1; w = 1; p = 265; ls = 7 }
 
@@ -38,16 +34,22 @@ LMOTS_SHA256_N32_W4 = record { otstype = 3; w = 4; p = 67; ls = 4 }
 abbrev pub LMOTS_SHA256_N32_W8 : Ots
 LMOTS_SHA256_N32_W8 = record { otstype = 4; w = 8; p = 34; ls = 0 }
 
--- Section 5.1, Table 2: a row, with m = 32.
-pub record Lms : Type 0 where
-  pub type : ℕ
-  pub h : ℕ
-
+-- Section 5.1, Table 2, with m = 32.
 abbrev pub LMS_SHA256_M32_H5 : Lms
-LMS_SHA256_M32_H5 = record { type = 5; h = 5 }
+LMS_SHA256_M32_H5 = record { lmstype = 5; h = 5 }
 
 abbrev pub LMS_SHA256_M32_H10 : Lms
-LMS_SHA256_M32_H10 = record { type = 6; h = 10 }
+LMS_SHA256_M32_H10 = record { lmstype = 6; h = 10 }
+
+-- Bounds that every row of the tables meets.
+pub record OtsRow (o : Ots) : Type 0 where
+  pub w-some : 0 < o .w
+  pub w-most : o .w ≤ 8
+  pub p-most : o .p ≤ 265
+  pub ls-most : o .ls ≤ 7
+
+pub record LmsRow (l : Lms) : Type 0 where
+  pub h-most : l .h ≤ 25
 
 -- Section 7.1: the values between the hashed strings' numbers and their contents.
 abbrev pub D_PBLC : ℕ
