@@ -1,0 +1,68 @@
+-- Bytes written one part after the other.
+use mathlib.Core.Path.{_≡_, refl, _∙_, sym, ap}
+use mathlib.Core.List.{List, [], _++_, append-assoc, append-nil}
+use Prim.Native.Nat.{ℕ, _+_, _-_, _≤_}
+use native.Mathlib.Nat.{add-zero}
+use native.Mathlib.Omega.{arith}
+use lib.ListN.{length, take, drop, length-append, take-append-drop, drop-of-length-le}
+use lib.Seq.{take-at, drop-at, drop-drop, length-take-le}
+use Rattle.sha256.specs.Bytes.{written}
+use Rattle.sha256.proofs.Laws.{be-length, written-fits, written-twice}
+use Rattle.lms.specs.Types.{u16str, u32str, prefix}
+
+module _ (d s : List ℕ) (at : ℕ) (fits : at + length s ≤ length d) where
+  before-length : length (take at d ++ s) ≡ at + length s
+  before-length = length-append (take at d) s ∙ omega (arith, length-take-le at d (omega arith))
+
+  -- what stands behind the written part
+  pub written-behind : (j : ℕ) → at + length s ≤ j → drop j (written d at s) ≡ drop j d
+  written-behind j h =
+      let n : at + length s + (j - (at + length s)) ≡ j = omega arith in
+      let e : drop (at + length s) (written d at s) ≡ drop (at + length s) d =
+      rw (written-fits d at s fits) (drop-at (take at d ++ s) (drop (at + length s) d) (at + length s) before-length) in
+      ap (λ (k : ℕ). drop k (written d at s)) (sym n)
+      ∙ sym (drop-drop (j - (at + length s)) (at + length s) (written d at s))
+      ∙ ap (drop (j - (at + length s))) e
+      ∙ drop-drop (j - (at + length s)) (at + length s) d
+      ∙ ap (λ (k : ℕ). drop k d) n
+
+  -- the written part
+  pub written-there : take (length s) (drop at (written d at s)) ≡ s
+  written-there =
+      rw (written-fits d at s fits, append-assoc, drop-at (take at d) (s ++ drop (at + length s) d) at (length-take-le at d (omega arith)))
+      (take-at s (drop (at + length s) d) (length s) refl)
+
+pub written-none : (d : List ℕ) (at : ℕ) → at ≤ length d → written d at [] ≡ d
+written-none d at h = written-fits d at [] (omega arith) ∙ rw (append-nil, add-zero) (take-append-drop at d)
+
+-- two parts side by side are one
+pub written-after : (d a b : List ℕ) (at to : ℕ) → at + length a ≡ to → to + length b ≤ length d
+    → written (written d at a) to b ≡ written d at (a ++ b)
+written-after d a b at to t h = rw (← t) (written-twice d at a b (omega arith))
+
+-- a buffer filled whole
+pub written-whole : (d s : List ℕ) → length s ≡ length d → written d 0 s ≡ s
+written-whole d s h =
+    let e : drop (0 + length s) d ≡ [] = drop-of-length-le d {i = 0 + length s} (omega arith) in
+    written-fits d 0 s (omega arith) ∙ rw e (append-nil s)
+
+-- the 22 bytes before a hashed string's contents, laid part by part
+pub prefix-laid : (I b d z s₁ s₂ s₃ : List ℕ) (r x : ℕ) → length I ≡ 16 → length z ≡ 22
+    → s₁ ≡ written z 0 I → b ≡ u32str r → s₂ ≡ written s₁ 16 b → d ≡ u16str x → s₃ ≡ written s₂ 20 d → s₃ ≡ prefix I r x
+unfolding prefix
+prefix-laid I b d z s₁ s₂ s₃ r x li lz e₁ eb e₂ ed e₃ =
+    let lb : length (u32str r) ≡ 4 = be-length 4 r in
+    let ld : length (u16str x) ≡ 2 = be-length 2 x in
+    let la : length (I ++ u32str r) ≡ 20 = simp length-append (omega arith) in
+    let lp : length (I ++ u32str r ++ u16str x) ≡ 22 = simp length-append (omega arith) in
+    let two : written (written z 0 I) 16 (u32str r) ≡ written z 0 (I ++ u32str r) =
+    written-after z I (u32str r) 0 16 (omega arith) (omega arith) in
+    let three : written (written z 0 (I ++ u32str r)) 20 (u16str x) ≡ written z 0 (I ++ u32str r ++ u16str x) =
+    written-after z (I ++ u32str r) (u16str x) 0 20 (omega arith) (omega arith) in
+    rw (e₃, ed, e₂, eb, e₁, two, three) (written-whole z (I ++ u32str r ++ u16str x) (omega arith))
+
+-- an array filled by two parts
+pub filled-twice : (z a b s₁ s₂ : List ℕ) (n : ℕ) → length a ≡ n → n + length b ≡ length z → s₁ ≡ written z 0 a → s₂ ≡ written s₁ n b → s₂ ≡ a ++ b
+filled-twice z a b s₁ s₂ n la lz e₁ e₂ =
+    let l : length (a ++ b) ≡ length z = simp length-append (omega arith) in
+    rw (e₂, e₁, written-after z a b 0 n (omega arith) (omega arith)) (written-whole z (a ++ b) l)
