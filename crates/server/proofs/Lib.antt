@@ -1,0 +1,2 @@
+-- Laws that several proofs cite.
+pub mod Records
