@@ -4,11 +4,8 @@ use mathlib.Core.Bool.{Bool, true, false, _&&_}
 use Prim.Native.Nat.{ℕ, _≤_, _<_}
 use native.Mathlib.Omega.{arith}
 use lib.Dec.{leb, eqb}
+use Rattle.sha256.proofs.Cases.{by-bool}
 use borrow.Author.Tests.{leb-true, leb-false, eqb-true, eqb-false}
-
-pub by-bool {ℓ} : (P : Bool → Type ℓ) (b : Bool) → (b ≡ true → P true) → (b ≡ false → P false) → P b
-by-bool P true f g = f refl
-by-bool P false f g = g refl
 
 pub by-leb {ℓ} : (P : Bool → Type ℓ) (a b : ℕ) → (a ≤ b → P true) → (b < a → P false) → P (leb a b)
 by-leb P a b f g = by-bool P (leb a b) (λ e. f (leb-true a b e)) (λ e. g (leb-false a b e))

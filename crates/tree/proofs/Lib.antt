@@ -1,14 +1,15 @@
 -- laws
 pub mod Cases
-pub mod HashLength
 pub mod Levels
 pub mod Labels
 pub mod Agree
 pub mod Trees
 pub mod Tiles
+pub mod Pieces
 pub mod Cuts
 pub mod Covers
 pub mod ReadLaws
 pub mod Grows
 pub mod Messages
 pub mod Asked
+pub mod Walks
