@@ -1,6 +1,6 @@
 /* Kozbrax: the functions of the static library that `rt staticlib kozbrax` writes.
 
-   A slice is passed as a pointer and then its length in bytes. The caller sees to it that no pointer is NULL, also where
+   A slice is passed as a pointer and then its length, in bytes where nothing else is said. The caller sees to it that no pointer is NULL, also where
    the length is 0, that it reaches as many bytes as the length says, that a buffer which is written overlaps no other
    argument, and that nothing else writes what is lent during the call. No function keeps a pointer or allocates. */
 #ifndef KOZBRAX_H
@@ -17,6 +17,36 @@ extern "C" {
    Returns 0, or 21 where out_len is below 32.
    Leaves, on 0: the hash in the first 32 bytes of out, and the bytes past them as they were. On 21: out as it was. */
 uint32_t kozbrax_sha256(const uint8_t *message, size_t message_len, uint8_t *out, size_t out_len);
+
+/* The first label of position p's path. Returns 4294967295 where p is not 1 to 1,048,576. */
+uint32_t kozbrax_first_label(uint32_t p);
+
+/* The server, of `servers`, that owns node (p, l).
+   Returns 4294967295 where `servers` is not 2 to 16, p not 1 to 1,048,576, or l above the level of p. */
+uint32_t kozbrax_owner(uint32_t servers, uint32_t p, uint32_t l);
+
+/* The wait Q(p, N) with N = servers: how many operations after p until every server owns a node of the paths from p on.
+   Returns 4294967295 where `servers` is not 2 to 16 or p not 1 to 1,048,576. */
+uint32_t kozbrax_wait(uint32_t servers, uint32_t p);
+
+/* The nodes of the cover from v to w, v from 0 and w from max(v, 1) to 1,048,576: each as p (4 bytes, big-endian) and l (1 byte).
+   Returns the count of nodes, or 4294967295 where v and w are out of range or nodes_len is below 5 bytes a node.
+   Leaves, where it returns a count: the nodes in the first bytes, and the bytes past them as they were. Else: nodes as it was. */
+uint32_t kozbrax_cover(uint32_t v, uint32_t w, uint8_t *nodes, size_t nodes_len);
+
+/* The leaf of an entry, into the first 32 bytes of out. Returns 0, or 21 where out_len is below 32.
+   Leaves out as kozbrax_sha256 does. */
+uint32_t kozbrax_leaf(uint16_t author, const uint8_t *entry, size_t entry_len, uint8_t *out, size_t out_len);
+
+/* The digest of 1 to 1,048,576 leaves of 32 bytes each, into the first 32 bytes of out.
+   Returns 0, 21 where out_len is below 32, or else 24 where leaves_len is not 32 to 33,554,432 in steps of 32.
+   Leaves, on 0: the digest in the first 32 bytes of out, and the bytes past them as they were. Else: out as it was. */
+uint32_t kozbrax_digest(const uint8_t *leaves, size_t leaves_len, uint8_t *out, size_t out_len);
+
+/* The board: targets are those of the log's entries in order, 0 for an insertion; standing gets 1 for each standing insertion and 0
+   for every other entry. Both lengths count numbers.
+   Returns 0, or 21 where the lengths differ. Leaves, on 21: standing as it was. */
+uint32_t kozbrax_board(const uint32_t *targets, size_t targets_len, uint32_t *standing, size_t standing_len);
 
 #ifdef __cplusplus
 }

@@ -1,2 +1,3 @@
--- Laws of the exported functions' definitions.
-mod HashCall
+-- Laws that the exports' proofs cite.
+pub mod Ranges
+pub mod Nodes

@@ -1,2 +1,3 @@
 -- What the exported functions answer and leave.
 pub mod Hash
+pub mod Tree

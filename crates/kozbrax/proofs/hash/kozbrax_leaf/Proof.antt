@@ -1,0 +1,18 @@
+use borrow.Author.Needs.{needs}
+use Rattle.kozbrax.proofs.hash.kozbrax_leaf.Statement.{statement}
+use Rattle.kozbrax.proofs.hash.kozbrax_leaf.Tie as tie
+
+leaf-requires : tie.Need-leaf-requires
+leaf-requires c κs = search needs
+
+give-requires : tie.Need-give-requires
+give-requires c κs = search needs
+
+same-length : tie.Need-same-length
+same-length c = search needs
+
+returns : tie.Need-returns
+returns c = (c .before .before .give .ensures .0, rw (c .before .before .before .before .leaf .ensures) at (c .before .before .give .ensures .1))
+
+pub kozbrax-leaf-spec : {M : Type 1} → statement M
+kozbrax-leaf-spec = tie.close (tie.spec leaf-requires give-requires same-length returns)
