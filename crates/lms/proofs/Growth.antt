@@ -27,6 +27,9 @@ height-most h g = pow-mono {j = 25} g
 pub height-held : (h : ℕ) → h ≤ 25 → 1 * 2 ^ h % 18446744073709551616 ≡ 2 ^ h
 height-held h g = omega (arith, height-most h g)
 
+pub height-held-32 : (h : ℕ) → h ≤ 25 → 1 * 2 ^ h % 4294967296 ≡ 2 ^ h
+height-held-32 h g = omega (arith, height-most h g)
+
 pub nodes-held : (h : ℕ) → h ≤ 25 → 2 * 2 ^ h % 18446744073709551616 ≡ 2 ^ suc h
 nodes-held h g = omega (arith, height-most h g, pow-suc 2 h)
 

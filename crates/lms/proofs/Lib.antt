@@ -8,3 +8,4 @@ pub mod Writing
 pub mod Words
 pub mod Digits
 pub mod Growth
+pub mod Climbing

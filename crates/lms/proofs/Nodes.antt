@@ -30,7 +30,7 @@ unfolding inner
 inner-length I a b r = sha256-length _
 
 -- the bytes of node r are there
-node-whole : (tree : List ℕ) (h r : ℕ) → treeSize h ≤ length tree → 0 < r → r < 2 ^ suc h → length (nodeAt tree r) ≡ 32
+pub node-whole : (tree : List ℕ) (h r : ℕ) → treeSize h ≤ length tree → 0 < r → r < 2 ^ suc h → length (nodeAt tree r) ≡ 32
 unfolding nodeAt treeSize
 node-whole tree h r l lo hi = length-take-le 32 (drop (32 * (r - 1)) tree) (simp length-drop (omega arith))
 

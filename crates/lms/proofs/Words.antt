@@ -69,3 +69,7 @@ prefix-in-words I w q i o l e s =
     let whole : bytes (words 4 I) ≡ I = bytes-words 4 I o (omega arith) ∙ take-all 16 I (omega arith) in
     let n : 22 ≡ length I + 6 = omega arith in
     rw (e, first-words I (q ∷ i * 65536 ∷ []), bytes-append, whole, n, take-append-add, last-words q i s) (sym (append-assoc I (be 4 q) (be 2 i)))
+
+-- a seed is what its words stand for
+pub seed-back : (s : List ℕ) → Octets s → length s ≡ 32 → bytes (words 8 s) ≡ s
+seed-back s o l = bytes-words 8 s o (omega arith) ∙ take-all 32 s (omega arith)

@@ -1,0 +1,84 @@
+use lib.ListN.{length}
+use borrow.Author.Tests.{eq-eqb, ne-eqb}
+use borrow.Author.Needs.{needs}
+use Rattle.lms.specs.Check.{signatureFits, signatureSize, typePlace}
+use Rattle.lms.proofs.Growth.{height-held}
+use Rattle.lms.proofs.checking.signature_fits.Statement.{statement}
+use Rattle.lms.proofs.checking.signature_fits.Tie as tie
+
+add-if1 : tie.Need-add-if1
+add-if1 c = search needs
+
+mul-if1 : tie.Need-mul-if1
+mul-if1 c = search needs
+
+add-if1-2 : tie.Need-add-if1-2
+add-if1-2 c = search needs
+
+mul-if1-2 : tie.Need-mul-if1-2
+mul-if1-2 c = search needs
+
+add-if1-3 : tie.Need-add-if1-3
+add-if1-3 c = search needs
+
+returns : tie.Need-returns
+unfolding signatureFits signatureSize
+returns c = rw (ne-eqb (length (c .before .before .args .s .now)) (signatureSize (c .before .before .args .o) (c .before .before .args .l)) (c .if1 .taken))
+
+u32-at-requires : tie.Need-u32-at-requires
+u32-at-requires c κs = search needs
+
+returns-2 : tie.Need-returns-2
+unfolding signatureFits signatureSize
+returns-2 c = rw (eq-eqb (length (c .before .before .before .before .before .args .s .now)) (signatureSize (c .before .before .before .before .before .args .o) (c .before .before .before .before .before .args .l)) (c .before .before .before .if1 .left), ← c .before .before .u32-at .ensures, ne-eqb (c .before .before .u32-at .result) (c .before .before .before .before .before .args .o .otstype) (c .if2 .taken))
+
+add-u32-at : tie.Need-add-u32-at
+add-u32-at c = search needs
+
+mul-u32-at : tie.Need-mul-u32-at
+mul-u32-at c = search needs
+
+add-u32-at-2 : tie.Need-add-u32-at-2
+add-u32-at-2 c = search needs
+
+u32-at-requires-2 : tie.Need-u32-at-requires-2
+u32-at-requires-2 c κs = search needs
+
+returns-3 : tie.Need-returns-3
+unfolding signatureFits signatureSize typePlace
+returns-3 c = rw (eq-eqb (length (c .before .before .before .before .before .before .before .before .args .s .now)) (signatureSize (c .before .before .before .before .before .before .before .before .args .o) (c .before .before .before .before .before .before .before .before .args .l)) (c .before .before .before .before .before .before .if1 .left), ← c .before .before .before .before .before .u32-at .ensures, eq-eqb (c .before .before .before .before .before .u32-at .result) (c .before .before .before .before .before .before .before .before .args .o .otstype) (c .before .before .before .if2 .left), ← c .before .before .u32-at2 .ensures, ne-eqb (c .before .before .u32-at2 .result) (c .before .before .before .before .before .before .before .before .args .l .lmstype) (c .if3 .taken))
+
+u32-at-requires-3 : tie.Need-u32-at-requires-3
+u32-at-requires-3 c κs = search needs
+
+cast-result : tie.Need-cast-result
+cast-result c = search needs
+
+shl-result : tie.Need-shl-result
+shl-result c = search needs
+
+returns-4 : tie.Need-returns-4
+unfolding signatureFits signatureSize typePlace
+returns-4 c = rw (eq-eqb (length (c .before .before .before .before .before .before .before .before .before .args .s .now)) (signatureSize (c .before .before .before .before .before .before .before .before .before .args .o) (c .before .before .before .before .before .before .before .before .before .args .l)) (c .before .before .before .before .before .before .before .if1 .left), ← c .before .before .before .before .before .before .u32-at .ensures, eq-eqb (c .before .before .before .before .before .before .u32-at .result) (c .before .before .before .before .before .before .before .before .before .args .o .otstype) (c .before .before .before .before .if2 .left), ← c .before .before .before .u32-at2 .ensures, eq-eqb (c .before .before .before .u32-at2 .result) (c .before .before .before .before .before .before .before .before .before .args .l .lmstype) (c .before .if3 .left), ← c .u32-at3 .ensures, height-held (c .before .before .before .before .before .before .before .before .before .args .l .h) (c .before .before .before .before .before .before .before .before .before .pre .1))
+
+pub signature-fits-spec : {M : Type 1} → statement M
+signature-fits-spec =
+    tie.close
+    (tie.spec
+    add-if1
+    mul-if1
+    add-if1-2
+    mul-if1-2
+    add-if1-3
+    returns
+    u32-at-requires
+    returns-2
+    add-u32-at
+    mul-u32-at
+    add-u32-at-2
+    u32-at-requires-2
+    returns-3
+    u32-at-requires-3
+    cast-result
+    shl-result
+    returns-4)

@@ -1,0 +1,95 @@
+use mathlib.Core.Path.{_≡_, _∙_, sym, ap}
+use Prim.Native.Nat.{_≤_, _-_}
+use native.Mathlib.Omega.{arith}
+use lib.ListN.{length}
+use borrow.Author.Needs.{needs}
+use Rattle.sha256.proofs.Laws.{written-length}
+use Rattle.sha256.specs.Hash.{bytes}
+use Rattle.sha256.specs.Bytes.{written}
+use Rattle.lms.specs.Ots.{coef, digit, chain, secret, opened}
+use Rattle.lms.specs.Types.{prefix, cat}
+use Rattle.lms.proofs.Digits.{power-most, coef-most}
+use Rattle.lms.proofs.Chains.{chain-length, secret-length}
+use Rattle.lms.proofs.Writing.{written-none, laid-more}
+use Rattle.lms.proofs.signing.write_chains.Statement.{statement}
+use Rattle.lms.proofs.signing.write_chains.Tie as tie
+
+abbrev Inv-loop : tie.InvT-loop
+Inv-loop id seed q place₀ at p w d i₀ place i =
+    (i ≤ p) × (place ≡ written place₀ at (cat (λ j. chain (prefix id q j) 0 (coef d j w) (secret id (bytes seed) q j)) i))
+
+abbrev μ-loop : tie.MeasureT-loop
+μ-loop id seed q place₀ at p w d i₀ place i = p - i
+
+summed-requires : tie.Need-summed-requires Inv-loop μ-loop
+summed-requires c κs = search needs
+
+loop-holds : tie.Need-loop-holds Inv-loop μ-loop
+unfolding cat
+loop-holds c = (search needs, sym (written-none (c .before .before .args .place .now) (c .before .before .args .at) (omega (arith, c .before .before .pre .1))))
+
+cast-opened : tie.Need-cast-opened Inv-loop μ-loop
+cast-opened c = search needs
+
+slice-aggregate-coef : tie.Need-slice-aggregate-coef Inv-loop μ-loop
+slice-aggregate-coef c = search needs
+
+coef-requires : tie.Need-coef-requires Inv-loop μ-loop
+coef-requires c κs = search needs
+
+opened-requires : tie.Need-opened-requires Inv-loop μ-loop
+opened-requires c κs = let wide = power-most (c .before .before .before .before .before .before .args .o .w) (c .before .before .before .before .before .before .pre .0 .w-most) in let most = coef-most (c .before .before .before .before .summed .result) (c .before .before .before .loop .i) (c .before .before .before .before .before .before .args .o .w) in omega (arith, c .coef .ensures)
+
+mul-put : tie.Need-mul-put Inv-loop μ-loop
+mul-put c = search needs
+
+add-put : tie.Need-add-put Inv-loop μ-loop
+add-put c = search needs
+
+slice-aggregate-put : tie.Need-slice-aggregate-put Inv-loop μ-loop
+slice-aggregate-put c = search needs
+
+put-requires : tie.Need-put-requires Inv-loop μ-loop
+put-requires c κs = search needs
+
+add-i : tie.Need-add-i Inv-loop μ-loop
+add-i c = search needs
+
+loop-less : tie.Need-loop-less Inv-loop μ-loop
+loop-less c = search needs
+
+loop-again : tie.Need-loop-again Inv-loop μ-loop
+loop-again c = let a = c .before .before .before .before .before .before .before .before .before .before .before .before .args in let d = c .before .before .before .before .before .before .before .before .before .before .summed .result in (
+  search needs,
+  laid-more (a .place .now) (λ j. chain (prefix (a .id) (a .q) j) 0 (coef d j (a .o .w)) (secret (a .id) (bytes (a .seed)) (a .q) j)) (a .at) (c .before .before .before .before .before .before .before .before .before .loop .i) (a .o .p) _ (c .before .before .before .before .before .before .before .before .before .loop .place) _
+      (λ j g. chain-length _ _ 0 (coef d j (a .o .w)) (secret-length (a .id) (bytes (a .seed)) (a .q) j)) (c .before .before .before .before .before .before .before .before .loop-test .taken) (c .before .before .before .before .before .before .before .before .before .before .before .before .pre .1) (c .before .before .before .before .before .before .before .before .before .loop .inv .1) (c .before .before .before .before .before .opened .ensures ∙ rw (c .before .before .before .before .before .before .coef .ensures)) (c .before .before .put .ensures),
+)
+
+same-length : tie.Need-same-length Inv-loop μ-loop
+same-length c = ap length (c .before .loop .inv .1) ∙ written-length (c .before .before .before .before .args .place .now) (c .before .before .before .before .args .at) _
+
+returns : tie.Need-returns Inv-loop μ-loop
+unfolding opened digit
+returns c = let e : c .before .loop .i ≡ c .before .before .before .before .args .o .p = omega arith in rw (e, c .before .before .summed .ensures) at (c .before .loop .inv .1)
+
+pub write-chains-spec : {M : Type 1} → statement M
+write-chains-spec =
+    tie.close
+    (tie.spec
+    Inv-loop
+    μ-loop
+    summed-requires
+    loop-holds
+    cast-opened
+    slice-aggregate-coef
+    coef-requires
+    opened-requires
+    mul-put
+    add-put
+    slice-aggregate-put
+    put-requires
+    add-i
+    loop-less
+    loop-again
+    same-length
+    returns)

@@ -1,0 +1,101 @@
+// A record with one field changed: each is refused.
+use crate::hex;
+use crate::record;
+use crate::report;
+use sha256::bytes;
+
+// Reads an accepted record, with a byte behind its key and its signature, and runs the changes below.
+pub fn run(path: &[u8]) {
+    let mut text = [0u8; 8192];
+    let n = record::read(path, &mut text);
+    let all = bytes::front(&text, n);
+    let mut key = [0u8; 57];
+    let mut signature = [0u8; 2509];
+    let mut message = [0u8; 256];
+    hex::decode(record::line(all), &mut key);
+    hex::decode(record::line(record::after_line(all)), &mut signature);
+    let m = hex::decode(
+        record::line(record::after_line(record::after_line(all))),
+        &mut message,
+    );
+    lengths(&key, bytes::front(&message, m), &signature);
+    fields(&mut key, bytes::front(&message, m), &mut signature);
+}
+
+// Key, signature and text that are too short or too long.
+fn lengths(key: &[u8], text: &[u8], signature: &[u8]) {
+    let k = bytes::front(key, 56);
+    let s = bytes::front(signature, 2508);
+    report::answer(
+        b"key one byte short",
+        lms::check(bytes::front(key, 55), text, s),
+    );
+    report::answer(b"key one byte long", lms::check(key, text, s));
+    report::answer(b"key empty", lms::check(bytes::front(key, 0), text, s));
+    report::answer(
+        b"signature one byte short",
+        lms::check(k, text, bytes::front(signature, 2507)),
+    );
+    report::answer(b"signature one byte long", lms::check(k, text, signature));
+    report::answer(
+        b"signature empty",
+        lms::check(k, text, bytes::front(signature, 0)),
+    );
+    report::answer(
+        b"text one byte short",
+        lms::check(k, bytes::from(text, 1), s),
+    );
+}
+
+// One field after the other, and at last the record as it is.
+fn fields(key: &mut [u8], text: &[u8], signature: &mut [u8]) {
+    in_key(b"wrong type in the key", key, 3, text, signature);
+    in_key(b"wrong one-time type in the key", key, 7, text, signature);
+    in_key(b"wrong I in the key", key, 8, text, signature);
+    in_key(b"wrong root in the key", key, 55, text, signature);
+    in_signature(b"wrong number", key, text, signature, 3);
+    in_signature(b"number past the tree", key, text, signature, 2);
+    in_signature(
+        b"wrong one-time type in the signature",
+        key,
+        text,
+        signature,
+        7,
+    );
+    in_signature(b"wrong randomizer", key, text, signature, 8);
+    in_signature(b"wrong string y0", key, text, signature, 40);
+    in_signature(b"wrong checksum string y66", key, text, signature, 2183);
+    in_signature(b"wrong type in the signature", key, text, signature, 2187);
+    in_signature(b"wrong path0", key, text, signature, 2188);
+    in_signature(b"wrong path9", key, text, signature, 2507);
+    report::answer(
+        b"nothing changed",
+        lms::check(bytes::front(key, 56), text, bytes::front(signature, 2508)),
+    );
+}
+
+// The check with the byte at a place of the key changed, and changed back.
+fn in_key(name: &[u8], key: &mut [u8], at: usize, text: &[u8], signature: &[u8]) {
+    change(key, at);
+    report::answer(
+        name,
+        lms::check(bytes::front(key, 56), text, bytes::front(signature, 2508)),
+    );
+    change(key, at);
+}
+
+// The same for a place of the signature.
+fn in_signature(name: &[u8], key: &[u8], text: &[u8], signature: &mut [u8], at: usize) {
+    change(signature, at);
+    report::answer(
+        name,
+        lms::check(bytes::front(key, 56), text, bytes::front(signature, 2508)),
+    );
+    change(signature, at);
+}
+
+fn change(s: &mut [u8], at: usize) {
+    if at < s.len() {
+        s[at] = s[at] ^ 4;
+    }
+}
