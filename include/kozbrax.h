@@ -18,6 +18,28 @@ extern "C" {
    Leaves, on 0: the hash in the first 32 bytes of out, and the bytes past them as they were. On 21: out as it was. */
 uint32_t kozbrax_sha256(const uint8_t *message, size_t message_len, uint8_t *out, size_t out_len);
 
+/* The tree of an LMS key (RFC 8554, LMS_SHA256_M32_H10 with LMOTS_SHA256_N32_W4): nodes 1 to 2,047 in order, 32 bytes each.
+   seed has 32 bytes and id 16. Returns 0, or 21 where tree_len is below 65,504.
+   Leaves, on 0: the nodes in the first 65,504 bytes, and the bytes past them as they were. On 21: tree as it was. */
+uint32_t kozbrax_lms_generate(const uint8_t *seed, const uint8_t *id, uint8_t *tree, size_t tree_len);
+
+/* The RFC's public key of 56 bytes, from id (16 bytes) and the key's tree.
+   Returns 0, or 21 where tree_len is below 65,504 or key_len below 56.
+   Leaves, on 0: the public key in the first 56 bytes of key, and the bytes past them as they were. On 21: key as it was. */
+uint32_t kozbrax_lms_public_key(const uint8_t *id, const uint8_t *tree, size_t tree_len, uint8_t *key, size_t key_len);
+
+/* The RFC's signature of a text, 2,508 bytes. seed has 32 bytes, id 16 and randomizer 32; each number is to be used once.
+   Returns 0; 21 where tree_len is below 65,504 or signature_len below 2,508; else 17 where number is 1,024 or more.
+   Leaves, on 0: the signature in the first 2,508 bytes, and the bytes past them as they were. Else: signature as it was. */
+uint32_t kozbrax_lms_sign(const uint8_t *seed, const uint8_t *id, uint32_t number, const uint8_t *randomizer,
+                          const uint8_t *text, size_t text_len, const uint8_t *tree, size_t tree_len,
+                          uint8_t *signature, size_t signature_len);
+
+/* Whether a signature of a text is valid under a public key, all of any length.
+   Returns the number that the signature was made with, or 4294967295 where the RFC says INVALID. Writes nothing. */
+uint32_t kozbrax_lms_check(const uint8_t *key, size_t key_len, const uint8_t *text, size_t text_len,
+                           const uint8_t *signature, size_t signature_len);
+
 /* The first label of position p's path. Returns 4294967295 where p is not 1 to 1,048,576. */
 uint32_t kozbrax_first_label(uint32_t p);
 

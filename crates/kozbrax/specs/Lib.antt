@@ -1,3 +1,4 @@
 -- What the exported functions answer and leave.
 pub mod Hash
 pub mod Tree
+pub mod Lms

@@ -3,3 +3,4 @@ mod board;
 mod cover;
 mod hash;
 mod label;
+mod signature;
