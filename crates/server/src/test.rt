@@ -1,6 +1,6 @@
 // Tests joined without a branch, so that a check reads like its definition.
 ghost use mathlib.Core.Path.{_≡_};
-ghost use mathlib.Core.Bool.{cond, not as notOf, _&&_, _||_};
+ghost use mathlib.Core.Bool.{cond, _&&_, _||_};
 ghost use lib.Dec.{eqb, leb, ltb};
 
 pub fn both(a: bool, b: bool) -> bool
@@ -50,4 +50,10 @@ pub fn checked(passes: bool, code: u8, after: u8) -> u8
         return after;
     }
     code
+}
+
+pub fn below(a: usize, b: usize) -> bool
+    ensures { λ r. ⌜ r ≡ ltb a b ⌝ }
+{
+    a < b
 }
