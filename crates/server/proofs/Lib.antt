@@ -1,3 +1,4 @@
 -- Laws that several proofs cite.
 pub mod Records
 pub mod Judged
+pub mod Codes
