@@ -2,3 +2,4 @@
 pub mod Records
 pub mod Judged
 pub mod Codes
+pub mod Effects
