@@ -23,7 +23,9 @@ unfolding checkOf
 returns-2 c = let a = c .before .before .before .before .before .before .before .args in let k : keyFits (a .o) (a .l) (a .key .now) ≡ true = sym (c .before .before .before .key-fits .ensures) ∙ not-false _ (c .before .before .if1 .left) in let f : signatureFits (a .o) (a .l) (a .s .now) ≡ false = sym (c .before .signature-fits .ensures) ∙ not-true _ (c .if2 .taken) in rw (k, f)
 
 root-requires : tie.Need-root-requires
-root-requires c κs = let a = c .before .before .before .before .before .before .before .args in let k : keyFits (a .o) (a .l) (a .key .now) ≡ true = sym (c .before .before .before .key-fits .ensures) ∙ not-false _ (c .before .before .if1 .left) in let f : signatureFits (a .o) (a .l) (a .s .now) ≡ true = sym (c .before .signature-fits .ensures) ∙ not-false _ (c .if2 .left) in (c .before .before .before .before .before .before .before .pre .0, (c .before .before .before .before .before .before .before .pre .1, (k, f)))
+root-requires c κs =
+    let the-pre = c .before .before .before .before .before .before .before .pre in
+    let a = c .before .before .before .before .before .before .before .args in let k : keyFits (a .o) (a .l) (a .key .now) ≡ true = sym (c .before .before .before .key-fits .ensures) ∙ not-false _ (c .before .before .if1 .left) in let f : signatureFits (a .o) (a .l) (a .s .now) ≡ true = sym (c .before .signature-fits .ensures) ∙ not-false _ (c .if2 .left) in (the-pre .0, (the-pre .1, (k, f)))
 
 slice-aggregate-same : tie.Need-slice-aggregate-same
 slice-aggregate-same c = search needs

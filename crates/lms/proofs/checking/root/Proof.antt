@@ -23,7 +23,9 @@ shl-n : tie.Need-shl-n
 shl-n c = search needs
 
 add-n : tie.Need-add-n
-add-n c = let a = c .before .before .before .before .before .args in let big = height-most (a .l .h) (c .before .before .before .before .before .pre .1 .0) in let one = height-held-32 (a .l .h) (c .before .before .before .before .before .pre .1 .0) in let fit = signature-passed (a .o) (a .l) (a .s .now) (c .before .before .before .before .before .pre .1 .1 .1) in omega (arith, fit .1, c .u32-at .ensures)
+add-n c =
+    let the-pre = c .before .before .before .before .before .pre in
+    let a = c .before .before .before .before .before .args in let big = height-most (a .l .h) (the-pre .1 .0) in let one = height-held-32 (a .l .h) (the-pre .1 .0) in let fit = signature-passed (a .o) (a .l) (a .s .now) (the-pre .1 .1 .1) in omega (arith, fit .1, c .u32-at .ensures)
 
 from-requires : tie.Need-from-requires
 from-requires c κs = search needs
@@ -39,7 +41,9 @@ from-requires-2 c κs = search needs
 
 candidate-requires : tie.Need-candidate-requires
 unfolding signatureSize
-candidate-requires c κs = let a = c .before .before .before .before .before .before .before .before .before .args in let big = height-most (a .l .h) (c .before .before .before .before .before .before .before .before .before .pre .1 .0) in let one = height-held-32 (a .l .h) (c .before .before .before .before .before .before .before .before .before .pre .1 .0) in let fit = signature-passed (a .o) (a .l) (a .s .now) (c .before .before .before .before .before .before .before .before .before .pre .1 .1 .1) in (c .before .before .before .before .before .before .before .before .before .pre .0, omega (arith, fit .0, ap length (c .from2 .ensures), length-drop 40 (a .s .now)))
+candidate-requires c κs =
+    let the-pre = c .before .before .before .before .before .before .before .before .before .pre in
+    let a = c .before .before .before .before .before .before .before .before .before .args in let big = height-most (a .l .h) (the-pre .1 .0) in let one = height-held-32 (a .l .h) (the-pre .1 .0) in let fit = signature-passed (a .o) (a .l) (a .s .now) (the-pre .1 .1 .1) in (the-pre .0, omega (arith, fit .0, ap length (c .from2 .ensures), length-drop 40 (a .s .now)))
 
 add-from : tie.Need-add-from
 add-from c = search needs
@@ -61,7 +65,9 @@ climb-requires c κs = search needs
 
 returns : tie.Need-returns
 unfolding rootOf Tc Kc typePlace
-returns c = let a = c .before .before .before .before .before .before .before .before .before .before .before .before .before .args in let big = height-most (a .l .h) (c .before .before .before .before .before .before .before .before .before .before .before .before .before .pre .1 .0) in let one = height-held-32 (a .l .h) (c .before .before .before .before .before .before .before .before .before .before .before .before .before .pre .1 .0) in let fit = signature-passed (a .o) (a .l) (a .s .now) (c .before .before .before .before .before .before .before .before .before .before .before .before .before .pre .1 .1 .1) in
+returns c =
+    let the-pre = c .before .before .before .before .before .before .before .before .before .before .before .before .before .pre in
+    let a = c .before .before .before .before .before .before .before .before .before .before .before .before .before .args in let big = height-most (a .l .h) (the-pre .1 .0) in let one = height-held-32 (a .l .h) (the-pre .1 .0) in let fit = signature-passed (a .o) (a .l) (a .s .now) (the-pre .1 .1 .1) in
     let n : 8 + 32 * (a .o .p + 1) + 4 ≡ 12 + 32 * (a .o .p + 1) = omega arith in
     rw (c .climb .ensures, c .before .leaf .ensures, c .before .before .before .candidate .ensures, c .before .before .from3 .ensures, c .before .before .before .before .from2 .ensures, c .before .before .before .before .before .text-hash .ensures, c .before .before .before .before .before .before .front .ensures, c .before .before .before .before .before .before .before .from .ensures, c .before .before .before .before .before .before .before .before .before .id-of .ensures, c .before .before .before .before .before .before .before .before .u32-at .ensures, one, n)
 

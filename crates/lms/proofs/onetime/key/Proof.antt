@@ -61,7 +61,9 @@ finish-requires c κs = search needs
 
 returns : tie.Need-returns Inv-loop μ-loop
 unfolding K endsHash chainEnd
-returns c = let e : c .before .before .loop .i ≡ c .before .before .before .before .before .before .before .args .o .p = omega arith in c .finish .ensures _ (rw (e, c .before .before .before .before .before .before .last .ensures) at (c .before .before .loop .inv .1))
+returns c =
+    let the-loop = c .before .before .loop in
+    let e : the-loop .i ≡ c .before .before .before .before .before .before .before .args .o .p = omega arith in c .finish .ensures _ (rw (e, c .before .before .before .before .before .before .last .ensures) at (the-loop .inv .1))
 
 pub key-spec : {M : Type 1} → statement M
 key-spec =
