@@ -15,8 +15,8 @@ use Rattle.lms.specs.declared.Ots.{Ots}
 use Rattle.lms.specs.declared.Lms.{Lms}
 use Rattle.lms.specs.Ots.{K, textHash, opened, otsSignature}
 use Rattle.lms.specs.Tree.{leaf, T, treeBytes, treeSize, publicKey}
-use Rattle.lms.specs.Signature.{path, signature}
-use Rattle.lms.specs.Check.{Tc, keyFits, typePlace, signatureSize, signatureFits, rootOf, checkOf}
+use Rattle.lms.specs.Signature.{path, signature, signatureSize}
+use Rattle.lms.specs.Check.{Tc, keyFits, typePlace, signatureFits, rootOf, checkOf}
 use Rattle.lms.specs.Claims.{Set, RoundTrip, SignatureLength, TextHashed, CallsRoundTrip}
 use Rattle.sha256.proofs.Words.{number-drop}
 use Rattle.sha256.proofs.Laws.{be-length, number-be, eqs-refl, written-fits}

@@ -9,9 +9,9 @@ use Rattle.lms.specs.declared.Ots.{Ots}
 use Rattle.lms.specs.declared.Lms.{Lms}
 use Rattle.lms.specs.Ots.{textHash}
 use Rattle.lms.specs.Tree.{T, treeBytes, treeSize, publicKey}
-use Rattle.lms.specs.Signature.{nodeAt, signature}
+use Rattle.lms.specs.Signature.{nodeAt, signature, signatureSize}
 use Rattle.lms.specs.Calls.{generateCode, generated}
-use Rattle.lms.specs.Check.{signatureSize, checkOf}
+use Rattle.lms.specs.Check.{checkOf}
 use Rattle.lms.specs.declared.Checked.{Checked}
 
 -- Types and numbers fit the four bytes that a key and a signature have for each. Every row of the RFC's tables does.

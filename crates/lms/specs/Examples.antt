@@ -2,12 +2,12 @@
 use mathlib.Core.Path.{_≡_, refl}
 use mathlib.Core.List.{List, [], _∷_}
 use Prim.Native.Nat.{ℕ, _+_, _-_, _*_, _/_}
+use Rattle.lms.specs.Signature.{signatureSize}
 use Rattle.lms.specs.declared.Ots.{Ots}
 use Rattle.lms.specs.Types.{LMOTS_SHA256_N32_W1, LMOTS_SHA256_N32_W2, LMOTS_SHA256_N32_W4, LMOTS_SHA256_N32_W8}
 use Rattle.lms.specs.Types.{LMS_SHA256_M32_H5, LMS_SHA256_M32_H10}
 use Rattle.lms.specs.Ots.{coef, sumTo, Cksm, digit}
 use Rattle.lms.specs.Tree.{treeSize}
-use Rattle.lms.specs.Check.{signatureSize}
 use Rattle.sha256.specs.Bytes.{be}
 
 -- Section 3.1.3: "if S is the string 0x1234, then coef(S, 7, 1) is 0 and coef(S, 0, 4) is 1".
@@ -15,7 +15,7 @@ coef-of-1234 : (coef (0x12 ∷ 0x34 ∷ []) 7 1 ≡ 0) × (coef (0x12 ∷ 0x34 �
 unfolding coef
 coef-of-1234 = (refl, refl)
 
--- Section 4.1: p is the count of values in n bytes and in the checksum's 16 - ls bits.
+-- Appendix B: p = u + v, with u the values of w bits in n bytes and v those in the checksum's 16 - ls bits.
 strings : Ots → ℕ
 strings o = 32 * 8 / o .w + (16 - o .ls) / o .w
 

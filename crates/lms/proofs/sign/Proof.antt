@@ -6,8 +6,8 @@ use mir.Val.{Fits}
 use lib.ListN.{length, getD}
 use borrow.Author.Tests.{le-leb, lt-leb, le-ltb, lt-ltb}
 use borrow.Author.Needs.{needs}
+use Rattle.lms.specs.Signature.{signatureSize}
 use Rattle.lms.specs.Calls.{signCode, signed}
-use Rattle.lms.specs.Check.{signatureSize}
 use Rattle.lms.specs.Tree.{treeSize}
 use Rattle.lms.proofs.Climbing.{w4-row}
 use Rattle.lms.proofs.Words.{seed-back}

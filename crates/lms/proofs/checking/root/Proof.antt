@@ -3,7 +3,8 @@ use Prim.Native.Nat.{_+_, _*_}
 use native.Mathlib.Omega.{arith}
 use lib.ListN.{length, length-drop}
 use borrow.Author.Needs.{needs}
-use Rattle.lms.specs.Check.{Tc, typePlace, signatureSize, rootOf}
+use Rattle.lms.specs.Signature.{signatureSize}
+use Rattle.lms.specs.Check.{Tc, typePlace, rootOf}
 use Rattle.lms.specs.Ots.{Kc}
 use Rattle.lms.proofs.Growth.{height-most, height-held-32}
 use Rattle.lms.proofs.Climbing.{key-passed, signature-passed}

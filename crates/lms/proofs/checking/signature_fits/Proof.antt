@@ -1,7 +1,8 @@
 use lib.ListN.{length}
 use borrow.Author.Tests.{eq-eqb, ne-eqb}
 use borrow.Author.Needs.{needs}
-use Rattle.lms.specs.Check.{signatureFits, signatureSize, typePlace}
+use Rattle.lms.specs.Signature.{signatureSize}
+use Rattle.lms.specs.Check.{signatureFits, typePlace}
 use Rattle.lms.proofs.Growth.{height-held}
 use Rattle.lms.proofs.checking.signature_fits.Statement.{statement}
 use Rattle.lms.proofs.checking.signature_fits.Tie as tie

@@ -5,8 +5,7 @@ use lib.ListN.{length}
 use borrow.Author.Needs.{needs}
 use Rattle.sha256.proofs.Laws.{be-length}
 use Rattle.sha256.specs.Hash.{bytes}
-use Rattle.lms.specs.Check.{signatureSize}
-use Rattle.lms.specs.Signature.{path, signature}
+use Rattle.lms.specs.Signature.{path, signature, signatureSize}
 use Rattle.lms.specs.Ots.{textHash, opened, otsSignature}
 use Rattle.lms.specs.Types.{u32str, cat}
 use Rattle.lms.proofs.Writing.{signature-laid}
