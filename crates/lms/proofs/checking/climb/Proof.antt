@@ -42,7 +42,15 @@ loop-less : tie.Need-loop-less Inv-loop μ-loop
 loop-less c = search needs
 
 loop-again : tie.Need-loop-again Inv-loop μ-loop
-loop-again c = (search needs, rw (climb-more, ← c .before .before .before .before .loop .inv .1, ← c .before .before .from .ensures, ← c .before .front .ensures) (c .above .ensures))
+loop-again c = (
+  search needs,
+  rw (
+    climb-more,
+    ← c .before .before .before .before .loop .inv .1,
+    ← c .before .before .from .ensures,
+    ← c .before .front .ensures,
+  ) (c .above .ensures),
+)
 
 returns : tie.Need-returns Inv-loop μ-loop
 returns c =

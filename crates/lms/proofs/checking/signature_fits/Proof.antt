@@ -36,7 +36,11 @@ unfolding signatureFits signatureSize
 returns-2 c =
     let the-args = c .before .before .before .before .before .args in
     let the-u32-at = c .before .before .u32-at in
-    rw (eq-eqb (length (the-args .s .now)) (signatureSize (the-args .o) (the-args .l)) (c .before .before .before .if1 .left), ← the-u32-at .ensures, ne-eqb (the-u32-at .result) (the-args .o .otstype) (c .if2 .taken))
+    rw (
+      eq-eqb (length (the-args .s .now)) (signatureSize (the-args .o) (the-args .l)) (c .before .before .before .if1 .left),
+      ← the-u32-at .ensures,
+      ne-eqb (the-u32-at .result) (the-args .o .otstype) (c .if2 .taken),
+    )
 
 add-u32-at : tie.Need-add-u32-at
 add-u32-at c = search needs
@@ -53,10 +57,19 @@ u32-at-requires-2 c κs = search needs
 returns-3 : tie.Need-returns-3
 unfolding signatureFits signatureSize typePlace
 returns-3 c =
+    let the-if1 = c .before .before .before .before .before .before .if1 in
     let the-args = c .before .before .before .before .before .before .before .before .args in
     let the-u32-at = c .before .before .before .before .before .u32-at in
     let the-u32-at2 = c .before .before .u32-at2 in
-    rw (eq-eqb (length (the-args .s .now)) (signatureSize (the-args .o) (the-args .l)) (c .before .before .before .before .before .before .if1 .left), ← the-u32-at .ensures, eq-eqb (the-u32-at .result) (the-args .o .otstype) (c .before .before .before .if2 .left), ← the-u32-at2 .ensures, ne-eqb (the-u32-at2 .result) (the-args .l .lmstype) (c .if3 .taken))
+    rw (
+      eq-eqb (length (the-args .s .now)) (signatureSize (the-args .o) (the-args .l)) (the-if1 .left),
+      ← the-u32-at .ensures,
+      eq-eqb
+          (the-u32-at .result) (the-args .o .otstype) (c .before .before .before .if2 .left),
+      ← the-u32-at2 .ensures,
+      ne-eqb (the-u32-at2 .result)
+          (the-args .l .lmstype) (c .if3 .taken),
+    )
 
 u32-at-requires-3 : tie.Need-u32-at-requires-3
 u32-at-requires-3 c κs = search needs
@@ -70,10 +83,23 @@ shl-result c = search needs
 returns-4 : tie.Need-returns-4
 unfolding signatureFits signatureSize typePlace
 returns-4 c =
+    let the-pre = c .before .before .before .before .before .before .before .before .before .pre in
+    let the-if1 = c .before .before .before .before .before .before .before .if1 in
+    let the-if2 = c .before .before .before .before .if2 in
     let the-args = c .before .before .before .before .before .before .before .before .before .args in
     let the-u32-at = c .before .before .before .before .before .before .u32-at in
     let the-u32-at2 = c .before .before .before .u32-at2 in
-    rw (eq-eqb (length (the-args .s .now)) (signatureSize (the-args .o) (the-args .l)) (c .before .before .before .before .before .before .before .if1 .left), ← the-u32-at .ensures, eq-eqb (the-u32-at .result) (the-args .o .otstype) (c .before .before .before .before .if2 .left), ← the-u32-at2 .ensures, eq-eqb (the-u32-at2 .result) (the-args .l .lmstype) (c .before .if3 .left), ← c .u32-at3 .ensures, height-held (the-args .l .h) (c .before .before .before .before .before .before .before .before .before .pre .1))
+    rw (
+      eq-eqb (length (the-args .s .now)) (signatureSize (the-args .o) (the-args .l)) (the-if1 .left),
+      ← the-u32-at .ensures,
+      eq-eqb
+          (the-u32-at .result) (the-args .o .otstype) (the-if2 .left),
+      ← the-u32-at2 .ensures,
+      eq-eqb (the-u32-at2 .result) (the-args .l .lmstype)
+          (c .before .if3 .left),
+      ← c .u32-at3 .ensures,
+      height-held (the-args .l .h) (the-pre .1),
+    )
 
 pub signature-fits-spec : {M : Type 1} → statement M
 signature-fits-spec =

@@ -31,22 +31,29 @@ coef-requires : tie.Need-coef-requires Inv-loop μ-loop
 coef-requires c κs =
     let the-args = c .before .before .before .before .args in
     let the-pre = c .before .before .before .before .pre in
-    let wide = power-most (the-args .o .w) (the-pre .w-most) in let few = div-le-self 256 (the-args .o .w) in (the-pre .w-some, (the-pre .w-most, omega arith))
+    let wide = power-most (the-args .o .w) (the-pre .w-most) in
+    let few = div-le-self 256 (the-args .o .w) in (the-pre .w-some, (the-pre .w-most, omega arith))
 
 sub-sum : tie.Need-sub-sum Inv-loop μ-loop
 sub-sum c =
+    let the-last = c .before .before .before .before .last in
     let the-args = c .before .before .before .before .before .args in
-    let most = coef-most (the-args .t2) (c .before .before .before .loop .i) (the-args .o .w) in omega (arith, c .coef .ensures, c .before .before .before .before .last .ensures)
+    let most = coef-most (the-args .t2) (c .before .before .before .loop .i) (the-args .o .w) in omega (arith, c .coef .ensures, the-last .ensures)
 
 add-sum : tie.Need-add-sum Inv-loop μ-loop
 add-sum c =
+    let the-pre = c .before .before .before .before .before .pre in
+    let the-last = c .before .before .before .before .last in
     let the-args = c .before .before .before .before .before .args in
-    let wide = power-most (the-args .o .w) (c .before .before .before .before .before .pre .w-most) in let few = div-le-self 256 (the-args .o .w) in omega (arith, c .before .before .before .before .last .ensures)
+    let wide = power-most (the-args .o .w) (the-pre .w-most) in
+    let few = div-le-self 256 (the-args .o .w) in omega (arith, the-last .ensures)
 
 add-i : tie.Need-add-i Inv-loop μ-loop
 add-i c =
+    let the-pre = c .before .before .before .before .before .pre in
     let the-args = c .before .before .before .before .before .args in
-    let wide = power-most (the-args .o .w) (c .before .before .before .before .before .pre .w-most) in let few = div-le-self 256 (the-args .o .w) in omega arith
+    let wide = power-most (the-args .o .w) (the-pre .w-most) in
+    let few = div-le-self 256 (the-args .o .w) in omega arith
 
 loop-less : tie.Need-loop-less Inv-loop μ-loop
 loop-less c = search needs
@@ -55,7 +62,19 @@ loop-again : tie.Need-loop-again Inv-loop μ-loop
 loop-again c =
     let the-args = c .before .before .before .before .before .args in
     let the-last = c .before .before .before .before .last in
-    let wide = power-most (the-args .o .w) (c .before .before .before .before .before .pre .w-most) in let few = div-le-self 256 (the-args .o .w) in (search needs, (omega (arith, the-last .ensures), rw (sum-more, ← c .before .before .before .loop .inv .1 .1, c .coef .ensures, the-last .ensures)))
+    let wide = power-most (the-args .o .w) (c .before .before .before .before .before .pre .w-most) in
+    let few = div-le-self 256 (the-args .o .w) in (
+      search needs,
+      (
+        omega (arith, the-last .ensures),
+        rw (
+          sum-more,
+          ← c .before .before .before .loop .inv .1 .1,
+          c .coef .ensures,
+          the-last .ensures,
+        ),
+      ),
+    )
 
 shl-be2 : tie.Need-shl-be2 Inv-loop μ-loop
 shl-be2 c = search needs
@@ -72,7 +91,15 @@ returns c =
     let the-args = c .before .before .before .before .args in
     let the-pre = c .before .before .before .before .pre in
     let the-loop = c .before .before .loop in
-    let wide = power-most (the-args .o .w) (the-pre .w-most) in let few = div-le-self 256 (the-args .o .w) in let e : the-loop .i ≡ 256 / the-args .o .w = omega arith in rw (c .be2 .ensures, sum-bytes (the-loop .sum) (the-args .o .ls) (omega arith) (the-pre .ls-most), the-loop .inv .1 .1, e)
+    let wide = power-most (the-args .o .w) (the-pre .w-most) in
+    let few = div-le-self 256 (the-args .o .w) in
+    let e : the-loop .i ≡ 256 / the-args .o .w = omega arith in rw (
+      c .be2 .ensures,
+      sum-bytes (the-loop .sum) (the-args .o .ls) (omega arith)
+          (the-pre .ls-most),
+      the-loop .inv .1 .1,
+      e,
+    )
 
 pub checksum-spec : {M : Type 1} → statement M
 checksum-spec =

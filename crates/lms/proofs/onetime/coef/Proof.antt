@@ -58,7 +58,8 @@ rem-result-2 c =
 returns : tie.Need-returns
 returns c =
     let the-args = c .before .before .before .args in
-    coef-is (the-args .s .now) (the-args .i) (the-args .w) (c .wide .result) (c .before .before .before .pre .1 .0) (c .wide .ensures ∙ c .before .byte-at .ensures)
+    coef-is (the-args .s .now) (the-args .i) (the-args .w) (c .wide .result) (c .before .before .before .pre .1 .0) (c .wide .ensures
+    ∙ c .before .byte-at .ensures)
 
 pub coef-spec : {M : Type 1} → statement M
 coef-spec =

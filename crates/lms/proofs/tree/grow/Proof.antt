@@ -27,13 +27,27 @@ sub-r : tie.Need-sub-r Inv-loop μ-loop
 sub-r c =
     let the-args = c .before .args in
     let the-pre = c .before .pre in
-    let big = height-most (the-args .h) (the-pre .1 .0) in let all = nodes-held (the-args .h) (the-pre .1 .0) in let two = pow-suc 2 (the-args .h) in omega (arith, pow-pos (the-args .h))
+    let big = height-most (the-args .h) (the-pre .1 .0) in
+    let all = nodes-held (the-args .h) (the-pre .1 .0) in
+    let two = pow-suc 2 (the-args .h) in omega (arith, pow-pos (the-args .h))
 
 loop-holds : tie.Need-loop-holds Inv-loop μ-loop
 loop-holds c =
     let the-args = c .before .args in
     let the-pre = c .before .pre in
-    let big = height-most (the-args .h) (the-pre .1 .0) in let all = nodes-held (the-args .h) (the-pre .1 .0) in let two = pow-suc 2 (the-args .h) in (omega (arith, pow-pos (the-args .h)), (refl, (refl, none-placed (the-args .o) (the-args .h) (the-args .id) (bytes (the-args .seed)) _ (the-args .tree .now) (omega arith))))
+    let big = height-most (the-args .h) (the-pre .1 .0) in
+    let all = nodes-held (the-args .h) (the-pre .1 .0) in
+    let two = pow-suc 2 (the-args .h) in (
+      omega (arith, pow-pos (the-args .h)),
+      (
+        refl,
+        (
+          refl,
+          none-placed (the-args .o) (the-args .h) (the-args .id)
+              (bytes (the-args .seed)) _ (the-args .tree .now) (omega arith),
+        ),
+      ),
+    )
 
 node-requires : tie.Need-node-requires Inv-loop μ-loop
 node-requires c κs = search needs
@@ -45,7 +59,9 @@ mul-put : tie.Need-mul-put Inv-loop μ-loop
 mul-put c =
     let the-args = c .before .before .before .before .before .before .args in
     let the-pre = c .before .before .before .before .before .before .pre in
-    let big = height-most (the-args .h) (the-pre .1 .0) in let all = nodes-held (the-args .h) (the-pre .1 .0) in let two = pow-suc 2 (the-args .h) in omega arith
+    let big = height-most (the-args .h) (the-pre .1 .0) in
+    let all = nodes-held (the-args .h) (the-pre .1 .0) in
+    let two = pow-suc 2 (the-args .h) in omega arith
 
 slice-aggregate-put : tie.Need-slice-aggregate-put Inv-loop μ-loop
 slice-aggregate-put c = search needs
@@ -67,15 +83,19 @@ loop-again c =
     let the-loop-test = c .before .before .before .before .before .before .before .loop-test in
     let the-node = c .before .before .before .before .before .node in
     let the-put = c .before .before .put in
-    let big = height-most (the-args .h) (the-pre .1 .0) in let all = nodes-held (the-args .h) (the-pre .1 .0) in let two = pow-suc 2 (the-args .h) in
+    let big = height-most (the-args .h) (the-pre .1 .0) in
+    let all = nodes-held (the-args .h) (the-pre .1 .0) in
+    let two = pow-suc 2 (the-args .h) in
     let room : treeSize (the-args .h) ≤ length (the-loop .tree) = omega (arith, the-loop .inv .1 .0, the-pre .1 .1) in
     let lx : length (the-node .result) ≡ 32 = search needs in (
       omega arith,
       (
         ap length (the-put .ensures) ∙ written-length (the-loop .tree) (32 * (the-loop .r - 1)) (the-node .result) ∙ the-loop .inv .1 .0,
         (
-          ap (drop (treeSize (the-args .h))) (the-put .ensures) ∙ rest-stays (the-args .o) (the-args .h) (the-args .id) (bytes (the-args .seed)) (the-loop .r) (the-loop .tree) (the-node .result) room (the-loop-test .taken) (the-loop .inv .0) lx ∙ the-loop .inv .1 .1 .0,
-          rw (the-put .ensures) (one-placed (the-args .o) (the-args .h) (the-args .id) (bytes (the-args .seed)) (the-loop .r) (the-loop .tree) (the-node .result) room (the-loop-test .taken) (the-loop .inv .0) lx (the-node .ensures) (the-loop .inv .1 .1 .1)),
+          ap (drop (treeSize (the-args .h))) (the-put .ensures) ∙ rest-stays (the-args .o) (the-args .h) (the-args .id) (bytes (the-args .seed))
+              (the-loop .r) (the-loop .tree) (the-node .result) room (the-loop-test .taken) (the-loop .inv .0) lx ∙ the-loop .inv .1 .1 .0,
+          rw (the-put .ensures) (one-placed (the-args .o) (the-args .h) (the-args .id) (bytes (the-args .seed)) (the-loop .r) (the-loop .tree)
+              (the-node .result) room (the-loop-test .taken) (the-loop .inv .0) lx (the-node .ensures) (the-loop .inv .1 .1 .1)),
         ),
       ),
     )
@@ -87,7 +107,8 @@ returns : tie.Need-returns Inv-loop μ-loop
 returns c =
     let the-args = c .before .before .before .args in
     let the-loop = c .before .loop in
-    let e : the-loop .r ≡ 0 = omega arith in all-placed (the-args .o) (the-args .h) (the-args .id) (bytes (the-args .seed)) (the-args .tree .now) (the-loop .tree) (c .before .before .before .pre .1 .1) (the-loop .inv .1 .1 .0) (rw e at (the-loop .inv .1 .1 .1))
+    let e : the-loop .r ≡ 0 = omega arith in all-placed (the-args .o) (the-args .h) (the-args .id) (bytes (the-args .seed)) (the-args .tree .now)
+    (the-loop .tree) (c .before .before .before .pre .1 .1) (the-loop .inv .1 .1 .0) (rw e at (the-loop .inv .1 .1 .1))
 
 pub grow-spec : {M : Type 1} → statement M
 grow-spec =

@@ -15,13 +15,17 @@ cast-leaf : tie.Need-cast-leaf
 cast-leaf c =
     let the-args = c .before .before .args in
     let the-pre = c .before .before .pre in
-    let big = height-most (the-args .h) (the-pre .1 .0) in let one = height-held (the-args .h) (the-pre .1 .0) in let two = pow-suc 2 (the-args .h) in omega arith
+    let big = height-most (the-args .h) (the-pre .1 .0) in
+    let one = height-held (the-args .h) (the-pre .1 .0) in
+    let two = pow-suc 2 (the-args .h) in omega arith
 
 cast-key : tie.Need-cast-key
 cast-key c =
     let the-args = c .before .before .args in
     let the-pre = c .before .before .pre in
-    let big = height-most (the-args .h) (the-pre .1 .0) in let one = height-held (the-args .h) (the-pre .1 .0) in let two = pow-suc 2 (the-args .h) in omega arith
+    let big = height-most (the-args .h) (the-pre .1 .0) in
+    let one = height-held (the-args .h) (the-pre .1 .0) in
+    let two = pow-suc 2 (the-args .h) in omega arith
 
 key-requires : tie.Need-key-requires
 key-requires c κs = search needs
@@ -34,43 +38,63 @@ unfolding nodeOver
 returns c =
     let the-args = c .before .before .before .before .args in
     let the-pre = c .before .before .before .before .pre in
-    let big = height-most (the-args .h) (the-pre .1 .0) in let one = height-held (the-args .h) (the-pre .1 .0) in let two = pow-suc 2 (the-args .h) in let le : 2 ^ the-args .h ≤ the-args .r = omega (arith, c .before .before .if1 .taken) in rw (le-leb (2 ^ the-args .h) (the-args .r) le, c .leaf .ensures, c .before .key .ensures, one)
+    let big = height-most (the-args .h) (the-pre .1 .0) in
+    let one = height-held (the-args .h) (the-pre .1 .0) in
+    let two = pow-suc 2 (the-args .h) in
+    let le : 2 ^ the-args .h ≤ the-args .r = omega (arith, c .before .before .if1 .taken) in rw (
+      le-leb (2 ^ the-args .h) (the-args .r) le,
+      c .leaf .ensures,
+      c .before .key .ensures,
+      one,
+    )
 
 cast-inner : tie.Need-cast-inner
 cast-inner c =
     let the-args = c .before .before .args in
     let the-pre = c .before .before .pre in
-    let big = height-most (the-args .h) (the-pre .1 .0) in let one = height-held (the-args .h) (the-pre .1 .0) in let two = pow-suc 2 (the-args .h) in omega arith
+    let big = height-most (the-args .h) (the-pre .1 .0) in
+    let one = height-held (the-args .h) (the-pre .1 .0) in
+    let two = pow-suc 2 (the-args .h) in omega arith
 
 mul-node-at : tie.Need-mul-node-at
 mul-node-at c =
     let the-args = c .before .before .args in
     let the-pre = c .before .before .pre in
-    let big = height-most (the-args .h) (the-pre .1 .0) in let one = height-held (the-args .h) (the-pre .1 .0) in let two = pow-suc 2 (the-args .h) in omega arith
+    let big = height-most (the-args .h) (the-pre .1 .0) in
+    let one = height-held (the-args .h) (the-pre .1 .0) in
+    let two = pow-suc 2 (the-args .h) in omega arith
 
 node-at-requires : tie.Need-node-at-requires
 node-at-requires c κs =
     let the-args = c .before .before .args in
     let the-pre = c .before .before .pre in
-    let big = height-most (the-args .h) (the-pre .1 .0) in let one = height-held (the-args .h) (the-pre .1 .0) in let two = pow-suc 2 (the-args .h) in (omega arith, omega arith)
+    let big = height-most (the-args .h) (the-pre .1 .0) in
+    let one = height-held (the-args .h) (the-pre .1 .0) in
+    let two = pow-suc 2 (the-args .h) in (omega arith, omega arith)
 
 mul-node-at-2 : tie.Need-mul-node-at-2
 mul-node-at-2 c =
     let the-args = c .before .before .before .args in
     let the-pre = c .before .before .before .pre in
-    let big = height-most (the-args .h) (the-pre .1 .0) in let one = height-held (the-args .h) (the-pre .1 .0) in let two = pow-suc 2 (the-args .h) in omega arith
+    let big = height-most (the-args .h) (the-pre .1 .0) in
+    let one = height-held (the-args .h) (the-pre .1 .0) in
+    let two = pow-suc 2 (the-args .h) in omega arith
 
 add-node-at : tie.Need-add-node-at
 add-node-at c =
     let the-args = c .before .before .before .args in
     let the-pre = c .before .before .before .pre in
-    let big = height-most (the-args .h) (the-pre .1 .0) in let one = height-held (the-args .h) (the-pre .1 .0) in let two = pow-suc 2 (the-args .h) in omega arith
+    let big = height-most (the-args .h) (the-pre .1 .0) in
+    let one = height-held (the-args .h) (the-pre .1 .0) in
+    let two = pow-suc 2 (the-args .h) in omega arith
 
 node-at-requires-2 : tie.Need-node-at-requires-2
 node-at-requires-2 c κs =
     let the-args = c .before .before .before .args in
     let the-pre = c .before .before .before .pre in
-    let big = height-most (the-args .h) (the-pre .1 .0) in let one = height-held (the-args .h) (the-pre .1 .0) in let two = pow-suc 2 (the-args .h) in (omega arith, omega arith)
+    let big = height-most (the-args .h) (the-pre .1 .0) in
+    let one = height-held (the-args .h) (the-pre .1 .0) in
+    let two = pow-suc 2 (the-args .h) in (omega arith, omega arith)
 
 inner-requires : tie.Need-inner-requires
 inner-requires c κs = search needs
@@ -80,7 +104,15 @@ unfolding nodeOver
 returns-2 c =
     let the-args = c .before .before .before .before .before .args in
     let the-pre = c .before .before .before .before .before .pre in
-    let big = height-most (the-args .h) (the-pre .1 .0) in let one = height-held (the-args .h) (the-pre .1 .0) in let two = pow-suc 2 (the-args .h) in let lt : the-args .r < 2 ^ the-args .h = omega (arith, c .before .before .before .if1 .left) in rw (lt-leb (2 ^ the-args .h) (the-args .r) lt, c .inner .ensures, c .before .node-at2 .ensures, c .before .before .node-at .ensures)
+    let big = height-most (the-args .h) (the-pre .1 .0) in
+    let one = height-held (the-args .h) (the-pre .1 .0) in
+    let two = pow-suc 2 (the-args .h) in
+    let lt : the-args .r < 2 ^ the-args .h = omega (arith, c .before .before .before .if1 .left) in rw (
+      lt-leb (2 ^ the-args .h) (the-args .r) lt,
+      c .inner .ensures,
+      c .before .node-at2 .ensures,
+      c .before .before .node-at .ensures,
+    )
 
 pub node-spec : {M : Type 1} → statement M
 node-spec =
