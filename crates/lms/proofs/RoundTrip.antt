@@ -2,27 +2,29 @@
 use mathlib.Core.Path.{_≡_, refl, _∙_, sym, ap}
 use mathlib.Core.Bool.{true}
 use mathlib.Core.List.{List, _++_, append-assoc}
-use Prim.Native.Nat.{ℕ, _+_, _-_, _*_, _^_, _≤_, _<_}
-use native.Mathlib.Nat.{add-zero}
+use Prim.Native.Nat.{ℕ, _+_, _-_, _*_, _^_, _≤_, _<_, suc}
+use native.Mathlib.Nat.{add-zero, pow-suc}
 use native.Mathlib.Omega.{arith}
-use borrow.Author.Tests.{eq-eqb, lt-ltb}
-use lib.Pow.{pow-mono}
+use borrow.Author.Tests.{eq-eqb, lt-ltb, le-leb, lt-leb}
+use lib.Pow.{pow-pos, pow-mono}
 use lib.ListN.{length, take, drop, length-append}
 use lib.Seq.{take-at, drop-at, drop-drop}
 use Rattle.sha256.specs.Bytes.{numberAt}
-use Rattle.lms.specs.Types.{u32str, cat, prefix}
+use Rattle.lms.specs.Types.{LMOTS_SHA256_N32_W4, LMS_SHA256_M32_H10, u32str, cat, prefix}
 use Rattle.lms.specs.declared.Ots.{Ots}
 use Rattle.lms.specs.declared.Lms.{Lms}
 use Rattle.lms.specs.Ots.{K, textHash, opened, otsSignature}
 use Rattle.lms.specs.Tree.{leaf, T, treeBytes, treeSize, publicKey}
-use Rattle.lms.specs.Signature.{path, signature}
-use Rattle.lms.specs.Check.{Tc, keyFits, typePlace, signatureSize, signatureFits, rootOf, checkOf}
-use Rattle.lms.specs.Claims.{Set, RoundTrip, SignatureLength, TextHashed}
+use Rattle.lms.specs.Signature.{path, signature, signatureSize}
+use Rattle.lms.specs.Check.{Tc, keyFits, typePlace, signatureFits, rootOf, checkOf}
+use Rattle.lms.specs.Claims.{Set, RoundTrip, SignatureLength, TextHashed, CallsRoundTrip}
 use Rattle.sha256.proofs.Words.{number-drop}
-use Rattle.sha256.proofs.Laws.{be-length, number-be, eqs-refl}
+use Rattle.sha256.proofs.Laws.{be-length, number-be, eqs-refl, written-fits}
+use Rattle.sha256.proofs.Cases.{cases-lt}
+use Rattle.lms.specs.Calls.{generateCode, generated}
 use Rattle.lms.proofs.Parts.{cat-length}
 use Rattle.lms.proofs.Chains.{opened-length, opened-closes}
-use Rattle.lms.proofs.Nodes.{at-leaf, node-length, tree-length, path-length, path-leads-to-root}
+use Rattle.lms.proofs.Nodes.{at-leaf, node-in-tree, node-length, tree-length, path-length, path-leads-to-root}
 
 pub text-hashed : TextHashed
 unfolding TextHashed textHash prefix
@@ -170,3 +172,26 @@ round-trip o l set I SEED C message rest q li lc few =
       root-found o l I SEED C message _ rest q few,
       eqs-refl (T o (l .h) I SEED 1),
     )
+
+-- the set that the entry points fix is one of those
+pub set-fits : Set LMOTS_SHA256_N32_W4 LMS_SHA256_M32_H10
+set-fits = record { ots-fits = omega arith; type-fits = omega arith; numbers-fit = omega arith }
+
+-- a buffer that a tree was generated into begins with the tree
+generated-tree : (o : Ots) (l : Lms) (I SEED buffer : List ℕ) → generateCode l buffer ≡ 0
+    → generated o l I SEED buffer ≡ treeBytes o (l .h) I SEED ++ drop (treeSize (l .h)) buffer
+unfolding generated generateCode
+generated-tree o l I SEED buffer e =
+    cases-lt (length buffer) (treeSize (l .h))
+    (λ lt. let z : _≡_ {A = ℕ} 21 0 = rw (lt-leb (treeSize (l .h)) (length buffer) lt) at e in absurd (omega arith))
+    (λ le.
+    let n : 0 + length (treeBytes o (l .h) I SEED) ≡ treeSize (l .h) = omega (arith, tree-length o (l .h) I SEED) in
+    rw (le-leb (treeSize (l .h)) (length buffer) le) (written-fits buffer 0 (treeBytes o (l .h) I SEED) (omega arith) ∙ rw n))
+
+pub calls-round-trip : CallsRoundTrip
+unfolding CallsRoundTrip RoundTrip
+calls-round-trip o l set I SEED C message buffer q li lc few e =
+    let one : 1 < 2 ^ suc (l .h) = omega (arith, pow-suc 2 (l .h), pow-pos (l .h)) in
+    let tree = generated-tree o l I SEED buffer e in
+    rw (tree, node-in-tree o (l .h) I SEED 1 (drop (treeSize (l .h)) buffer) (omega arith) one)
+    (round-trip o l set I SEED C message (drop (treeSize (l .h)) buffer) q li lc few)

@@ -8,8 +8,7 @@ use Rattle.sha256.specs.Bytes.{written}
 use Rattle.lms.specs.declared.Ots.{Ots}
 use Rattle.lms.specs.declared.Lms.{Lms}
 use Rattle.lms.specs.Tree.{treeBytes, treeSize, publicKey}
-use Rattle.lms.specs.Signature.{nodeAt, signature}
-use Rattle.lms.specs.Check.{signatureSize}
+use Rattle.lms.specs.Signature.{nodeAt, signature, signatureSize}
 
 -- Document 01: "21: lent buffer below .. 65,504 (key)".
 unfoldable pub generateCode : Lms → List ℕ → ℕ

@@ -9,6 +9,7 @@ use Rattle.lms.specs.declared.Ots.{Ots}
 use Rattle.lms.specs.declared.Lms.{Lms}
 use Rattle.lms.specs.Ots.{Kc}
 use Rattle.lms.specs.Tree.{leaf, inner}
+use Rattle.lms.specs.Signature.{signatureSize}
 use Rattle.lms.specs.declared.Checked.{Checked}
 
 -- Algorithm 6a, step 4, one turn: the node above node_num, from tmp and path[i].
@@ -33,10 +34,6 @@ keyFits o l key = eqb (length key) (24 + 32) && (eqb (numberAt 4 key 0) (l .lmst
 -- Algorithm 6a, 2 f: where the signature's own type stands.
 unfoldable pub typePlace : Ots → ℕ
 typePlace o = 8 + 32 * (o .p + 1)
-
--- Section 5.4: a signature's length in bytes.
-unfoldable pub signatureSize : Ots → Lms → ℕ
-signatureSize o l = 12 + 32 * (o .p + 1) + 32 * l .h
 
 -- Algorithm 6a, steps 1 and 2: exact length (1, d, i), types (c, g) and number (i). Algorithm 4b's own tests, its steps 1 and 2, are c and d again.
 unfoldable pub signatureFits : Ots → Lms → List ℕ → Bool

@@ -9,8 +9,9 @@ use Rattle.lms.specs.declared.Ots.{Ots}
 use Rattle.lms.specs.declared.Lms.{Lms}
 use Rattle.lms.specs.Ots.{textHash}
 use Rattle.lms.specs.Tree.{T, treeBytes, treeSize, publicKey}
-use Rattle.lms.specs.Signature.{signature}
-use Rattle.lms.specs.Check.{signatureSize, checkOf}
+use Rattle.lms.specs.Signature.{nodeAt, signature, signatureSize}
+use Rattle.lms.specs.Calls.{generateCode, generated}
+use Rattle.lms.specs.Check.{checkOf}
 use Rattle.lms.specs.declared.Checked.{Checked}
 
 -- Types and numbers fit the four bytes that a key and a signature have for each. Every row of the RFC's tables does.
@@ -35,3 +36,11 @@ SignatureLength =
 unfoldable pub TextHashed : Type 0
 TextHashed =
     (I C message : List ℕ) (q : ℕ) → textHash I q C message ≡ sha256 (I ++ u32str q ++ u16str D_MESG ++ C ++ message)
+
+-- The same of the calls: a lent buffer that the key's tree was generated into gives the public key and the signature.
+unfoldable pub CallsRoundTrip : Type 0
+CallsRoundTrip =
+    (o : Ots) (l : Lms) → Set o l → (I SEED C message buffer : List ℕ) (q : ℕ) → length I ≡ 16 → length C ≡ 32 → q < 2 ^ l .h
+    → generateCode l buffer ≡ 0
+    → checkOf o l (publicKey o l I (nodeAt (generated o l I SEED buffer) 1)) message (signature o l I SEED q C message (generated o l I SEED buffer))
+    ≡ Checked.Number q

@@ -7,3 +7,4 @@ pub mod Signature
 pub mod Check
 pub mod Calls
 pub mod Claims
+pub mod Examples

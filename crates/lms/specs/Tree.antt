@@ -9,15 +9,15 @@ use Rattle.lms.specs.declared.Ots.{Ots}
 use Rattle.lms.specs.declared.Lms.{Lms}
 use Rattle.lms.specs.Ots.{K}
 
--- H(I || u32str(r) || u16str(D_LEAF) || OTS_PUB_HASH)
+-- Section 5.3: H(I || u32str(r) || u16str(D_LEAF) || OTS_PUB_HASH[r - 2^h])
 unfoldable pub leaf : List ℕ → ℕ → List ℕ → List ℕ
 leaf I r key = sha256 (prefix I r D_LEAF ++ key)
 
--- H(I || u32str(r) || u16str(D_INTR) || T[2*r] || T[2*r+1])
+-- Section 5.3: H(I || u32str(r) || u16str(D_INTR) || T[2*r] || T[2*r+1])
 unfoldable pub inner : List ℕ → ℕ → List ℕ → List ℕ → List ℕ
 inner I r left right = sha256 (prefix I r D_INTR ++ left ++ right)
 
--- T[r] by the RFC's two cases, 2^h ≤ r and otherwise; the two nodes below it count in the second only.
+-- Section 5.3: T[r] by its two cases, r >= 2^h and otherwise; the two nodes below it count in the second only.
 unfoldable pub nodeOver : Ots → ℕ → List ℕ → List ℕ → ℕ → List ℕ → List ℕ → List ℕ
 nodeOver o h I SEED r left right = cond (leb (2 ^ h) r) (leaf I r (K o I SEED (r - 2 ^ h))) (inner I r left right)
 
@@ -38,6 +38,6 @@ treeBytes o h I SEED = cat (λ i. T o h I SEED (suc i)) (2 ^ suc h - 1)
 unfoldable pub treeSize : ℕ → ℕ
 treeSize h = 32 * (2 ^ suc h - 1)
 
--- u32str(type) || u32str(otstype) || I || T[1]
+-- Section 5.3: u32str(type) || u32str(otstype) || I || T[1]
 unfoldable pub publicKey : Ots → Lms → List ℕ → List ℕ → List ℕ
 publicKey o l I root = u32str (l .lmstype) ++ u32str (o .otstype) ++ I ++ root

@@ -6,7 +6,7 @@ use Rattle.sha256.specs.Bytes.{be}
 use Rattle.lms.specs.declared.Ots.{Ots}
 use Rattle.lms.specs.declared.Lms.{Lms}
 
--- Section 3.1.1: u8str, u16str and u32str, the number's bytes in network order.
+-- Section 3.1: u8str, u16str and u32str, the number's bytes in network order.
 abbrev pub u8str : ℕ → List ℕ
 u8str = be 1
 
@@ -41,15 +41,12 @@ LMS_SHA256_M32_H5 = record { lmstype = 5; h = 5 }
 abbrev pub LMS_SHA256_M32_H10 : Lms
 LMS_SHA256_M32_H10 = record { lmstype = 6; h = 10 }
 
--- Bounds that every row of the tables meets.
+-- Bounds that every row of Table 1 meets. The greatest height of Table 2 is 25.
 pub record OtsRow (o : Ots) : Type 0 where
   pub w-some : 0 < o .w
   pub w-most : o .w ≤ 8
   pub p-most : o .p ≤ 265
   pub ls-most : o .ls ≤ 7
-
-pub record LmsRow (l : Lms) : Type 0 where
-  pub h-most : l .h ≤ 25
 
 -- Section 7.1: the values between the hashed strings' numbers and their contents.
 abbrev pub D_PBLC : ℕ

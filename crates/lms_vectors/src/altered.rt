@@ -18,8 +18,16 @@ pub fn run(path: &[u8]) {
         record::line(record::after_line(record::after_line(all))),
         &mut message,
     );
-    lengths(&key, bytes::front(&message, m), &signature);
-    fields(&mut key, bytes::front(&message, m), &mut signature);
+    each(&mut key, bytes::front(&message, m), &mut signature);
+}
+
+// The record with each change, and at last as it is.
+fn each(key: &mut [u8], text: &[u8], signature: &mut [u8]) {
+    lengths(key, text, signature);
+    key_fields(key, text, signature);
+    head_fields(key, text, signature);
+    other_fields(key, text, signature);
+    unchanged(key, text, signature);
 }
 
 // Key, signature and text that are too short or too long.
@@ -47,12 +55,16 @@ fn lengths(key: &[u8], text: &[u8], signature: &[u8]) {
     );
 }
 
-// One field after the other, and at last the record as it is.
-fn fields(key: &mut [u8], text: &[u8], signature: &mut [u8]) {
+// One field of the key after the other.
+fn key_fields(key: &mut [u8], text: &[u8], signature: &[u8]) {
     in_key(b"wrong type in the key", key, 3, text, signature);
     in_key(b"wrong one-time type in the key", key, 7, text, signature);
     in_key(b"wrong I in the key", key, 8, text, signature);
     in_key(b"wrong root in the key", key, 55, text, signature);
+}
+
+// One field of the signature's head after the other.
+fn head_fields(key: &[u8], text: &[u8], signature: &mut [u8]) {
     in_signature(b"wrong number", key, text, signature, 3);
     in_signature(b"number past the tree", key, text, signature, 2);
     in_signature(
@@ -63,11 +75,19 @@ fn fields(key: &mut [u8], text: &[u8], signature: &mut [u8]) {
         7,
     );
     in_signature(b"wrong randomizer", key, text, signature, 8);
+}
+
+// One field of the rest after the other.
+fn other_fields(key: &[u8], text: &[u8], signature: &mut [u8]) {
     in_signature(b"wrong string y0", key, text, signature, 40);
     in_signature(b"wrong checksum string y66", key, text, signature, 2183);
     in_signature(b"wrong type in the signature", key, text, signature, 2187);
     in_signature(b"wrong path0", key, text, signature, 2188);
     in_signature(b"wrong path9", key, text, signature, 2507);
+}
+
+// The record as it is.
+fn unchanged(key: &[u8], text: &[u8], signature: &[u8]) {
     report::answer(
         b"nothing changed",
         lms::check(bytes::front(key, 56), text, bytes::front(signature, 2508)),

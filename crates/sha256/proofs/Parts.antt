@@ -4,7 +4,7 @@ use mathlib.Core.List.{List, [], _∷_, _++_, append-assoc, append-nil}
 use Prim.Native.Nat.{ℕ, suc, _+_, _-_, _*_, _/_, _%_, _^_, _≤_, _<_}
 use native.Mathlib.Omega.{arith}
 use lib.ListN.{length, take, drop, set, replicate, length-append, length-replicate, replicate-append-replicate, take-append-drop}
-use lib.Seq.{length-take-le}
+use lib.Seq.{length-take-le, take-at}
 use Rattle.sha256.specs.Bytes.{be, written}
 use Rattle.sha256.specs.Constants.{H0}
 use Rattle.sha256.specs.Block.{compress}
@@ -41,7 +41,7 @@ absorbed m s t next block total h en et eb etotal =
     made (m ++ s) next block total (rw l en) (eb ∙ b) etotal
 
 module _ (sh : Sha) (m : List ℕ) (e : sh ≡ streamed m) where
-  state-is : sh .state ≡ hashValue (length m / 64) m
+  pub state-is : sh .state ≡ hashValue (length m / 64) m
   unfolding streamed
   state-is = ap (λ (x : Sha). x .state) e
 
@@ -49,7 +49,7 @@ module _ (sh : Sha) (m : List ℕ) (e : sh ≡ streamed m) where
   unfolding streamed
   block-is = ap (λ (x : Sha). x .block) e
 
-  total-is : sh .total ≡ length m % 2 ^ 64
+  pub total-is : sh .total ≡ length m % 2 ^ 64
   unfolding streamed
   total-is = ap (λ (x : Sha). x .total) e
 
@@ -100,82 +100,103 @@ module _ (sh : Sha) (m : List ℕ) (e : sh ≡ streamed m) where
       let v : next ≡ hashValue (length (m ++ x) / 64) (m ++ x) = en ∙ rw (q, b, state-is) (sym (next-block m x)) in
       absorb (m ++ x) (omega arith) v (total-more s count ec ∙ rw whole) ∙ ap streamed whole
 
-  bits-are : be 8 (sh .total % 2305843009213693952 * 8) ≡ be 8 (8 * length m)
-  bits-are =
-      let t = total-is in
-      let w : sh .total % 2305843009213693952 * 8 ≡ 8 * length m % 256 ^ 8 = omega arith in
-      ap (be 8) w ∙ be-mod 8 (8 * length m)
+-- the bytes that the block has, out of the streaming state
+pub rest-kept : (sh : Sha) (m : List ℕ) → sh ≡ streamed m → take (sh .total % 64) (sh .block) ≡ rest m
+rest-kept sh m e =
+    rw (block-is sh m e, fill-is sh m e) (take-at (rest m) (replicate (64 - length m % 64) 0) (length m % 64) (rest-length m))
 
-  -- the block with the padding's first byte
-  marked-is : set (sh .block) (sh .total % 64) 128 ≡ rest m ++ (128 ∷ replicate (63 - length m % 64) 0)
-  marked-is =
-      let f = fill-is in
-      let n : 64 - length m % 64 ≡ suc (63 - length m % 64) = omega arith in
-      rw (block-is, f, n) (set-first-zero (rest m) (63 - length m % 64) (length m % 64) 128 (rest-length m))
+-- the length in bits, from a count of bytes modulo 2^64
+pub bits-are : (total : ℕ) (m : List ℕ) → total ≡ length m % 2 ^ 64 → be 8 (total % 2305843009213693952 * 8) ≡ be 8 (8 * length m)
+bits-are total m t =
+    let w : total % 2305843009213693952 * 8 ≡ 8 * length m % 256 ^ 8 = omega arith in
+    ap (be 8) w ∙ be-mod 8 (8 * length m)
 
-  module _ (bits : List ℕ) (ebits : bits ≡ be 8 (sh .total % 2305843009213693952 * 8)) (fin out : List ℕ) (eout : out ≡ bytes fin) where
-    bits-length : length bits ≡ 8
-    bits-length = ap length ebits ∙ be-length 8 (sh .total % 2305843009213693952 * 8)
+-- the rest of m in a block of zeros, with the padding's first byte behind it
+pub marked-is : (m r : List ℕ) → r ≡ rest m
+    → set (written (replicate 64 0) 0 r) (length r) 128 ≡ rest m ++ (128 ∷ replicate (63 - length m % 64) 0)
+marked-is m r er =
+    let l : length r ≡ length m % 64 = ap length er ∙ rest-length m in
+    let n : 64 - length r ≡ suc (63 - length m % 64) = omega arith in
+    let b : written (replicate 64 0) 0 r ≡ rest m ++ replicate (suc (63 - length m % 64)) 0 =
+    written-over-zeros [] r 64 0 refl (omega arith) ∙ rw (n, er) in
+    rw (b, l) (set-first-zero (rest m) (63 - length m % 64) (length m % 64) 128 (rest-length m))
 
-    -- where the blocks end with the padding, the hash value is the hash
-    hashed : (count : ℕ) → fin ≡ hashValue count (pad m) → count ≡ length (pad m) / 64 → out ≡ sha256 m
-    unfolding sha256
-    hashed count ef ec = eout ∙ rw (ef, ec)
+module _ (m state marked : List ℕ) (es : state ≡ hashValue (length m / 64) m) (em : marked ≡ rest m ++ (128 ∷ replicate (63 - length m % 64) 0))
+    (bits : List ℕ) (digits : bits ≡ be 8 (8 * length m)) (fin out : List ℕ) (eout : out ≡ bytes fin) where
+  bits-length : length bits ≡ 8
+  bits-length = ap length digits ∙ be-length 8 (8 * length m)
 
-    -- the padding ends in this block
-    pub finished-here : (last : List ℕ) → sh .total % 64 < 56 → last ≡ written (set (sh .block) (sh .total % 64) 128) 56 bits
-        → fin ≡ compress (sh .state) (words 16 last) → out ≡ sha256 m
-    unfolding pad padding zeros
-    finished-here last h el ef =
-        let f = fill-is in
-        let z : 55 - length m % 64 + 8 ≡ 63 - length m % 64 = omega arith in
-        let head : List ℕ = rest m ++ (128 ∷ replicate (55 - length m % 64) 0) in
-        let lr : length (rest m) ≡ length m % 64 = rest-length m in
-        let lz : length {A = ℕ} (replicate (55 - length m % 64) 0) ≡ 55 - length m % 64 = length-replicate (55 - length m % 64) 0 in
-        let lh : length (rest m ++ (128 ∷ replicate (55 - length m % 64) 0)) ≡ 56 =
-        length-append (rest m) (128 ∷ replicate (55 - length m % 64) 0) ∙ omega arith in
-        let marked : set (sh .block) (sh .total % 64) 128 ≡ head ++ replicate 8 0 =
-        marked-is ∙ sym (append-assoc (rest m) (128 ∷ replicate (55 - length m % 64) 0) (replicate 8 0)
-        ∙ ap (λ (y : List ℕ). rest m ++ (128 ∷ y)) (replicate-append-replicate (55 - length m % 64) 8 0 ∙ ap (λ (i : ℕ). replicate i 0) z)) in
-        let lb = bits-length in
-        let none : 8 - length bits ≡ 0 = omega arith in
-        let digits : bits ≡ be 8 (8 * length m) = ebits ∙ bits-are in
-        let zs : (119 - length m % 64) % 64 ≡ 55 - length m % 64 = omega arith in
-        let b : last ≡ rest m ++ (128 ∷ replicate ((119 - length m % 64) % 64) 0 ++ be 8 (8 * length m)) =
-        el ∙ rw marked (written-over-zeros head bits 8 56 lh (omega arith)
-        ∙ rw none (append-nil (head ++ bits)) ∙ append-assoc (rest m) (128 ∷ replicate (55 - length m % 64) 0) bits
-        ∙ rw (zs, digits)) in
-        let lp : length (m ++ (128 ∷ replicate ((119 - length m % 64) % 64) 0 ++ be 8 (8 * length m))) ≡ length m + (9 + (55 - length m % 64)) =
-        length-append m (128 ∷ replicate ((119 - length m % 64) % 64) 0 ++ be 8 (8 * length m))
-        ∙ rw (zs, length-append (replicate (55 - length m % 64) 0) (be 8 (8 * length m)), lz, be-length 8 (8 * length m)) (omega arith) in
-        hashed (suc (length m / 64)) (ef ∙ rw (b, state-is) (sym (next-block m _))) (omega arith)
+  -- where the blocks end with the padding, the hash value is the hash
+  hashed : (count : ℕ) → fin ≡ hashValue count (pad m) → count ≡ length (pad m) / 64 → out ≡ sha256 m
+  unfolding sha256
+  hashed count ef ec = eout ∙ rw (ef, ec)
 
-    -- the padding takes one block more
-    pub finished-next : (next last : List ℕ) → 56 ≤ sh .total % 64
-        → next ≡ compress (sh .state) (words 16 (set (sh .block) (sh .total % 64) 128))
-        → last ≡ written (replicate 64 0) 56 bits → fin ≡ compress next (words 16 last) → out ≡ sha256 m
-    unfolding pad padding zeros
-    finished-next next last h en el ef =
-        let f = fill-is in
-        let one : List ℕ = 128 ∷ replicate (63 - length m % 64) 0 in
-        let lz : length {A = ℕ} (replicate (63 - length m % 64) 0) ≡ 63 - length m % 64 = length-replicate (63 - length m % 64) 0 in
-        let lm : length (m ++ (128 ∷ replicate (63 - length m % 64) 0)) ≡ length m + suc (63 - length m % 64) =
-        length-append m (128 ∷ replicate (63 - length m % 64) 0) ∙ omega arith in
-        let q : length (m ++ (128 ∷ replicate (63 - length m % 64) 0)) / 64 ≡ suc (length m / 64) = omega arith in
-        let first : next ≡ hashValue (length (m ++ one) / 64) (m ++ one) = en ∙ rw (q, marked-is, state-is) (sym (next-block m one)) in
-        let lb = bits-length in
-        let none : 8 - length bits ≡ 0 = omega arith in
-        let digits : bits ≡ be 8 (8 * length m) = ebits ∙ bits-are in
-        let b : last ≡ replicate 56 0 ++ bits =
-        el ∙ written-over-zeros (replicate 56 0) bits 8 56 refl (omega arith) ∙ rw none (append-nil (replicate 56 0 ++ bits)) in
-        let second : fin ≡ hashValue (suc (length (m ++ one) / 64)) ((m ++ one) ++ (replicate 56 0 ++ bits)) =
-        ef ∙ rw (b, first) (sym (next-block (m ++ one) (replicate 56 0 ++ bits) ∙ rw (rest-none (m ++ one) (omega arith)))) in
-        let zs : 63 - length m % 64 + 56 ≡ (119 - length m % 64) % 64 = omega arith in
-        let joined : (m ++ one) ++ (replicate 56 0 ++ bits) ≡ m ++ (128 ∷ replicate ((119 - length m % 64) % 64) 0 ++ be 8 (8 * length m)) =
-        append-assoc m one (replicate 56 0 ++ bits)
-        ∙ ap (λ (y : List ℕ). m ++ (128 ∷ y)) (sym (append-assoc (replicate (63 - length m % 64) 0) (replicate 56 0) bits)
-        ∙ rw (replicate-append-replicate {A = ℕ} (63 - length m % 64) 56 0, zs, digits)) in
-        let lp : length ((m ++ one) ++ (replicate 56 0 ++ bits)) ≡ length (m ++ one) + 64 =
-        length-append (m ++ one) (replicate 56 0 ++ bits) ∙ rw (length-append (replicate 56 0) bits, lb) in
-        hashed (suc (length (m ++ one) / 64)) (second ∙ ap (hashValue (suc (length (m ++ one) / 64))) joined)
-        (omega (arith, ap length joined))
+  -- the padding ends in this block
+  pub finished-here : (last : List ℕ) → length m % 64 < 56 → last ≡ written marked 56 bits
+      → fin ≡ compress state (words 16 last) → out ≡ sha256 m
+  unfolding pad padding zeros
+  finished-here last h el ef =
+      let z : 55 - length m % 64 + 8 ≡ 63 - length m % 64 = omega arith in
+      let head : List ℕ = rest m ++ (128 ∷ replicate (55 - length m % 64) 0) in
+      let lr : length (rest m) ≡ length m % 64 = rest-length m in
+      let lz : length {A = ℕ} (replicate (55 - length m % 64) 0) ≡ 55 - length m % 64 = length-replicate (55 - length m % 64) 0 in
+      let lh : length (rest m ++ (128 ∷ replicate (55 - length m % 64) 0)) ≡ 56 =
+      length-append (rest m) (128 ∷ replicate (55 - length m % 64) 0) ∙ omega arith in
+      let split : marked ≡ head ++ replicate 8 0 =
+      em ∙ sym (append-assoc (rest m) (128 ∷ replicate (55 - length m % 64) 0) (replicate 8 0)
+      ∙ ap (λ (y : List ℕ). rest m ++ (128 ∷ y)) (replicate-append-replicate (55 - length m % 64) 8 0 ∙ ap (λ (i : ℕ). replicate i 0) z)) in
+      let lb = bits-length in
+      let none : 8 - length bits ≡ 0 = omega arith in
+      let zs : (119 - length m % 64) % 64 ≡ 55 - length m % 64 = omega arith in
+      let b : last ≡ rest m ++ (128 ∷ replicate ((119 - length m % 64) % 64) 0 ++ be 8 (8 * length m)) =
+      el ∙ rw split (written-over-zeros head bits 8 56 lh (omega arith)
+      ∙ rw none (append-nil (head ++ bits)) ∙ append-assoc (rest m) (128 ∷ replicate (55 - length m % 64) 0) bits
+      ∙ rw (zs, digits)) in
+      let lp : length (m ++ (128 ∷ replicate ((119 - length m % 64) % 64) 0 ++ be 8 (8 * length m))) ≡ length m + (9 + (55 - length m % 64)) =
+      length-append m (128 ∷ replicate ((119 - length m % 64) % 64) 0 ++ be 8 (8 * length m))
+      ∙ rw (zs, length-append (replicate (55 - length m % 64) 0) (be 8 (8 * length m)), lz, be-length 8 (8 * length m)) (omega arith) in
+      hashed (suc (length m / 64)) (ef ∙ rw (b, es) (sym (next-block m _))) (omega arith)
+
+  -- the padding takes one block more
+  pub finished-next : (next last : List ℕ) → 56 ≤ length m % 64
+      → next ≡ compress state (words 16 marked)
+      → last ≡ written (replicate 64 0) 56 bits → fin ≡ compress next (words 16 last) → out ≡ sha256 m
+  unfolding pad padding zeros
+  finished-next next last h en el ef =
+      let one : List ℕ = 128 ∷ replicate (63 - length m % 64) 0 in
+      let lz : length {A = ℕ} (replicate (63 - length m % 64) 0) ≡ 63 - length m % 64 = length-replicate (63 - length m % 64) 0 in
+      let lm : length (m ++ (128 ∷ replicate (63 - length m % 64) 0)) ≡ length m + suc (63 - length m % 64) =
+      length-append m (128 ∷ replicate (63 - length m % 64) 0) ∙ omega arith in
+      let q : length (m ++ (128 ∷ replicate (63 - length m % 64) 0)) / 64 ≡ suc (length m / 64) = omega arith in
+      let first : next ≡ hashValue (length (m ++ one) / 64) (m ++ one) = en ∙ rw (q, em, es) (sym (next-block m one)) in
+      let lb = bits-length in
+      let none : 8 - length bits ≡ 0 = omega arith in
+      let b : last ≡ replicate 56 0 ++ bits =
+      el ∙ written-over-zeros (replicate 56 0) bits 8 56 refl (omega arith) ∙ rw none (append-nil (replicate 56 0 ++ bits)) in
+      let second : fin ≡ hashValue (suc (length (m ++ one) / 64)) ((m ++ one) ++ (replicate 56 0 ++ bits)) =
+      ef ∙ rw (b, first) (sym (next-block (m ++ one) (replicate 56 0 ++ bits) ∙ rw (rest-none (m ++ one) (omega arith)))) in
+      let zs : 63 - length m % 64 + 56 ≡ (119 - length m % 64) % 64 = omega arith in
+      let joined : (m ++ one) ++ (replicate 56 0 ++ bits) ≡ m ++ (128 ∷ replicate ((119 - length m % 64) % 64) 0 ++ be 8 (8 * length m)) =
+      append-assoc m one (replicate 56 0 ++ bits)
+      ∙ ap (λ (y : List ℕ). m ++ (128 ∷ y)) (sym (append-assoc (replicate (63 - length m % 64) 0) (replicate 56 0) bits)
+      ∙ rw (replicate-append-replicate {A = ℕ} (63 - length m % 64) 56 0, zs, digits)) in
+      let lp : length ((m ++ one) ++ (replicate 56 0 ++ bits)) ≡ length (m ++ one) + 64 =
+      length-append (m ++ one) (replicate 56 0 ++ bits) ∙ rw (length-append (replicate 56 0) bits, lb) in
+      hashed (suc (length (m ++ one) / 64)) (second ∙ ap (hashValue (suc (length (m ++ one) / 64))) joined)
+      (omega (arith, ap length joined))
+
+-- one compression, from what it is handed
+pub compressed-from : (fin h h′ w last : List ℕ) → fin ≡ compress h w → w ≡ words 16 last → h ≡ h′ → fin ≡ compress h′ (words 16 last)
+compressed-from fin h h′ w last e ew eh = e ∙ rw (ew, eh)
+
+pub written-from : (last b b′ bits : List ℕ) (at : ℕ) → last ≡ written b at bits → b ≡ b′ → last ≡ written b′ at bits
+written-from last b b′ bits at e eb = e ∙ rw eb
+
+-- a whole message: its blocks, and what is left after them
+pub rest-of-slice : (s t : List ℕ) → t ≡ take (length s - length s / 64 * 64) (drop (length s / 64 * 64) s) → t ≡ rest s
+rest-of-slice s t e = e ∙ rest-is (length s / 64 * 64) s ∙ sym (rest-after [] s refl)
+
+pub value-of-slice : (s h : List ℕ) → h ≡ hashValue ((0 + length s) / 64) ([] ++ s) → h ≡ hashValue (length s / 64) s
+value-of-slice s h e =
+    let n : 0 + length s ≡ length s = omega arith in
+    rw n at e

@@ -1,13 +1,14 @@
 // SHA-256 of a message that comes in parts: a state by value.
 ghost use mathlib.Core.Path.{_≡_};
 ghost use mathlib.Core.List.{List, _++_};
-ghost use Prim.Native.Nat.{ℕ, _+_, _/_, _%_, _^_};
+ghost use Prim.Native.Nat.{ℕ, _/_, _%_, _^_};
 ghost use lib.ListN.{length};
 ghost use Rattle.sha256.specs.Constants.{H0};
 ghost use Rattle.sha256.specs.Hash.{sha256, hashValue, bytes as bytesOf};
 ghost use Rattle.sha256.specs.Stream.{streamed};
 use crate::block;
 use crate::bytes;
+use crate::value;
 
 // The hash value of the whole blocks taken in, the bytes after them with zeros behind, and the count of all bytes modulo 2^64.
 pub struct Sha {
@@ -52,19 +53,10 @@ impl Sha {
         ensures { λ r. ⌜ ((m : List ℕ) → self ≡ streamed m → r ≡ sha256 m) ⌝ }
     {
         let state = self.state;
-        let mut block = self.block;
+        let block = self.block;
         let total = self.total;
         let at = (total % 64) as usize;
-        let bits = bytes::be8(total % 2305843009213693952 * 8);
-        block[at] = 128;
-        if at < 56 {
-            bytes::put(&mut block, 56, &bits);
-            return digest(block::compress(state, block::words_at(&block, 0)));
-        }
-        let next = block::compress(state, block::words_at(&block, 0));
-        let mut last = [0u8; 64];
-        bytes::put(&mut last, 56, &bits);
-        digest(block::compress(next, block::words_at(&last, 0)))
+        value::close(state, bytes::front(&block, at), total)
     }
 }
 
@@ -88,7 +80,7 @@ pub fn initial() -> [u32; 8]
 fn absorb(state: [u32; 8], s: &[u8], total: u64) -> Sha
     ensures { λ r. ⌜ ((m : List ℕ) → length m % 64 ≡ 0 → state ≡ hashValue (length m / 64) m → total ≡ length (m ++ now (s .entry)) % 2 ^ 64 → r ≡ streamed (m ++ now (s .entry))) ⌝ }
 {
-    let next = whole_blocks(state, s);
+    let next = value::whole_blocks(state, s);
     let whole = s.len() / 64 * 64;
     let mut block = [0u8; 64];
     bytes::put(&mut block, 0, &s[whole..]);
@@ -97,20 +89,6 @@ fn absorb(state: [u32; 8], s: &[u8], total: u64) -> Sha
         block,
         total,
     }
-}
-
-// The hash value after the whole blocks of s.
-fn whole_blocks(h: [u32; 8], s: &[u8]) -> [u32; 8]
-    ensures { λ r. ⌜ ((m : List ℕ) → length m % 64 ≡ 0 → h ≡ hashValue (length m / 64) m → r ≡ hashValue ((length m + length (now (s .entry))) / 64) (m ++ now (s .entry))) ⌝ }
-{
-    let mut state = h;
-    let mut i = 0;
-    while 64 <= s.len() - i {
-        let next = block::compress(state, block::words_at(s, i));
-        state = next;
-        i += 64;
-    }
-    state
 }
 
 // The bytes of a hash value.

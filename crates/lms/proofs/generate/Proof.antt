@@ -35,9 +35,17 @@ same-length c = search needs
 
 returns-2 : tie.Need-returns-2
 unfolding generateCode generated treeSize
-returns-2 c = let f : (j : ℕ) → Fits w8 (getD (c .before .before .before .before .before .before .before .before .before .args .t1) j 0) = λ j. search needs in
-    let back = seed-back (c .before .before .before .before .before .before .before .before .before .args .t1) (λ j. omega (arith, f j)) (search needs) in
-    rw (le-leb 65504 (length (c .before .before .before .before .before .before .before .before .before .args .nodes .now)) (c .before .before .before .before .before .before .before .if1 .left), c .before .before .grow .ensures, c .before .before .before .before .w4 .ensures, c .before .before .before .before .before .words .ensures, back) (refl, refl)
+returns-2 c =
+    let the-args = c .before .before .before .before .before .before .before .before .before .args in
+    let f : (j : ℕ) → Fits w8 (getD (the-args .t1) j 0) = λ j. search needs in
+    let back = seed-back (the-args .t1) (λ j. omega (arith, f j)) (search needs) in
+    rw (
+      le-leb 65504 (length (the-args .nodes .now)) (c .before .before .before .before .before .before .before .if1 .left),
+      c .before .before .grow .ensures,
+      c .before .before .before .before .w4 .ensures,
+      c .before .before .before .before .before .words .ensures,
+      back,
+    ) (refl, refl)
 
 pub generate-spec : {M : Type 1} → statement M
 generate-spec =

@@ -42,10 +42,20 @@ loop-less : tie.Need-loop-less Inv-loop μ-loop
 loop-less c = search needs
 
 loop-again : tie.Need-loop-again Inv-loop μ-loop
-loop-again c = (search needs, rw (climb-more, ← c .before .before .before .before .loop .inv .1, ← c .before .before .from .ensures, ← c .before .front .ensures) (c .above .ensures))
+loop-again c = (
+  search needs,
+  rw (
+    climb-more,
+    ← c .before .before .before .before .loop .inv .1,
+    ← c .before .before .from .ensures,
+    ← c .before .front .ensures,
+  ) (c .above .ensures),
+)
 
 returns : tie.Need-returns Inv-loop μ-loop
-returns c = let e : c .before .loop .i ≡ c .before .before .before .args .h = omega arith in rw e at (c .before .loop .inv .1)
+returns c =
+    let the-loop = c .before .loop in
+    let e : the-loop .i ≡ c .before .before .before .args .h = omega arith in rw e at (the-loop .inv .1)
 
 pub climb-spec : {M : Type 1} → statement M
 climb-spec =

@@ -20,9 +20,15 @@ put-requires : tie.Need-put-requires
 put-requires c κs = search needs
 
 returns : tie.Need-returns
-returns c = let e = c .before .before .front .ensures ∙ ap (take 16) (c .before .before .before .from .ensures) in
-    let n : length (take 16 (drop 8 (c .before .before .before .before .before .before .args .key .now))) ≡ 16 = length-take-le 16 (drop 8 (c .before .before .before .before .before .before .args .key .now)) (simp length-drop (omega (arith, c .before .before .before .before .before .before .pre))) in
-    c .before .put .ensures ∙ rw e (written-whole _ (take 16 (drop 8 (c .before .before .before .before .before .before .args .key .now))) n)
+returns c =
+    let the-pre = c .before .before .before .before .before .before .pre in
+    let the-args = c .before .before .before .before .before .before .args in
+    let e = c .before .before .front .ensures ∙ ap (take 16) (c .before .before .before .from .ensures) in
+    let n : length (take 16 (drop 8 (the-args .key .now))) ≡ 16 = length-take-le 16 (drop 8 (the-args .key .now)) (simp length-drop (omega (
+      arith,
+      the-pre,
+    ))) in
+    c .before .put .ensures ∙ rw e (written-whole _ (take 16 (drop 8 (the-args .key .now))) n)
 
 pub id-of-spec : {M : Type 1} → statement M
 id-of-spec =

@@ -14,14 +14,32 @@ u32-at-requires c κs = search needs
 
 returns-2 : tie.Need-returns-2
 unfolding keyFits
-returns-2 c = rw (eq-eqb (length (c .before .before .before .before .before .args .key .now)) 56 (c .before .before .before .if1 .left), ← c .before .before .u32-at .ensures, ne-eqb (c .before .before .u32-at .result) (c .before .before .before .before .before .args .l .lmstype) (c .if2 .taken))
+returns-2 c =
+    let the-args = c .before .before .before .before .before .args in
+    let the-u32-at = c .before .before .u32-at in
+    rw (
+      eq-eqb (length (the-args .key .now)) 56 (c .before .before .before .if1 .left),
+      ← the-u32-at .ensures,
+      ne-eqb (the-u32-at .result)
+          (the-args .l .lmstype) (c .if2 .taken),
+    )
 
 u32-at-requires-2 : tie.Need-u32-at-requires-2
 u32-at-requires-2 c κs = search needs
 
 returns-3 : tie.Need-returns-3
 unfolding keyFits
-returns-3 c = rw (eq-eqb (length (c .before .before .before .before .before .before .before .args .key .now)) 56 (c .before .before .before .before .before .if1 .left), ← c .before .before .before .before .u32-at .ensures, eq-eqb (c .before .before .before .before .u32-at .result) (c .before .before .before .before .before .before .before .args .l .lmstype) (c .before .before .if2 .left), ← c .before .u32-at2 .ensures)
+returns-3 c =
+    let the-if1 = c .before .before .before .before .before .if1 in
+    let the-args = c .before .before .before .before .before .before .before .args in
+    let the-u32-at = c .before .before .before .before .u32-at in
+    rw (
+      eq-eqb (length (the-args .key .now)) 56 (the-if1 .left),
+      ← the-u32-at .ensures,
+      eq-eqb (the-u32-at .result) (the-args .l .lmstype)
+          (c .before .before .if2 .left),
+      ← c .before .u32-at2 .ensures,
+    )
 
 pub key-fits-spec : {M : Type 1} → statement M
 key-fits-spec = tie.close (tie.spec returns u32-at-requires returns-2 u32-at-requires-2 returns-3)

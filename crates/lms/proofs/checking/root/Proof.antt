@@ -3,7 +3,8 @@ use Prim.Native.Nat.{_+_, _*_}
 use native.Mathlib.Omega.{arith}
 use lib.ListN.{length, length-drop}
 use borrow.Author.Needs.{needs}
-use Rattle.lms.specs.Check.{Tc, typePlace, signatureSize, rootOf}
+use Rattle.lms.specs.Signature.{signatureSize}
+use Rattle.lms.specs.Check.{Tc, typePlace, rootOf}
 use Rattle.lms.specs.Ots.{Kc}
 use Rattle.lms.proofs.Growth.{height-most, height-held-32}
 use Rattle.lms.proofs.Climbing.{key-passed, signature-passed}
@@ -11,7 +12,8 @@ use Rattle.lms.proofs.checking.root.Statement.{statement}
 use Rattle.lms.proofs.checking.root.Tie as tie
 
 id-of-requires : tie.Need-id-of-requires
-id-of-requires c κs = let a = c .before .before .before .args in omega (arith, key-passed (a .o) (a .l) (a .key .now) (c .before .before .before .pre .1 .1 .0))
+id-of-requires c κs =
+    let a = c .before .before .before .args in omega (arith, key-passed (a .o) (a .l) (a .key .now) (c .before .before .before .pre .1 .1 .0))
 
 u32-at-requires : tie.Need-u32-at-requires
 u32-at-requires c κs = search needs
@@ -23,7 +25,12 @@ shl-n : tie.Need-shl-n
 shl-n c = search needs
 
 add-n : tie.Need-add-n
-add-n c = let a = c .before .before .before .before .before .args in let big = height-most (a .l .h) (c .before .before .before .before .before .pre .1 .0) in let one = height-held-32 (a .l .h) (c .before .before .before .before .before .pre .1 .0) in let fit = signature-passed (a .o) (a .l) (a .s .now) (c .before .before .before .before .before .pre .1 .1 .1) in omega (arith, fit .1, c .u32-at .ensures)
+add-n c =
+    let a = c .before .before .before .before .before .args in
+    let the-pre = c .before .before .before .before .before .pre in
+    let big = height-most (a .l .h) (the-pre .1 .0) in
+    let one = height-held-32 (a .l .h) (the-pre .1 .0) in
+    let fit = signature-passed (a .o) (a .l) (a .s .now) (the-pre .1 .1 .1) in omega (arith, fit .1, c .u32-at .ensures)
 
 from-requires : tie.Need-from-requires
 from-requires c κs = search needs
@@ -39,7 +46,20 @@ from-requires-2 c κs = search needs
 
 candidate-requires : tie.Need-candidate-requires
 unfolding signatureSize
-candidate-requires c κs = let a = c .before .before .before .before .before .before .before .before .before .args in let big = height-most (a .l .h) (c .before .before .before .before .before .before .before .before .before .pre .1 .0) in let one = height-held-32 (a .l .h) (c .before .before .before .before .before .before .before .before .before .pre .1 .0) in let fit = signature-passed (a .o) (a .l) (a .s .now) (c .before .before .before .before .before .before .before .before .before .pre .1 .1 .1) in (c .before .before .before .before .before .before .before .before .before .pre .0, omega (arith, fit .0, ap length (c .from2 .ensures), length-drop 40 (a .s .now)))
+candidate-requires c κs =
+    let a = c .before .before .before .before .before .before .before .before .before .args in
+    let the-pre = c .before .before .before .before .before .before .before .before .before .pre in
+    let big = height-most (a .l .h) (the-pre .1 .0) in
+    let one = height-held-32 (a .l .h) (the-pre .1 .0) in
+    let fit = signature-passed (a .o) (a .l) (a .s .now) (the-pre .1 .1 .1) in (
+      the-pre .0,
+      omega (
+        arith,
+        fit .0,
+        ap length (c .from2 .ensures),
+        length-drop 40 (a .s .now),
+      ),
+    )
 
 add-from : tie.Need-add-from
 add-from c = search needs
@@ -61,9 +81,33 @@ climb-requires c κs = search needs
 
 returns : tie.Need-returns
 unfolding rootOf Tc Kc typePlace
-returns c = let a = c .before .before .before .before .before .before .before .before .before .before .before .before .before .args in let big = height-most (a .l .h) (c .before .before .before .before .before .before .before .before .before .before .before .before .before .pre .1 .0) in let one = height-held-32 (a .l .h) (c .before .before .before .before .before .before .before .before .before .before .before .before .before .pre .1 .0) in let fit = signature-passed (a .o) (a .l) (a .s .now) (c .before .before .before .before .before .before .before .before .before .before .before .before .before .pre .1 .1 .1) in
+returns c =
+    let a = c .before .before .before .before .before .before .before .before .before .before .before .before .before .args in
+    let the-id-of = c .before .before .before .before .before .before .before .before .before .id-of in
+    let the-u32-at = c .before .before .before .before .before .before .before .before .u32-at in
+    let the-from = c .before .before .before .before .before .before .before .from in
+    let the-front = c .before .before .before .before .before .before .front in
+    let the-text-hash = c .before .before .before .before .before .text-hash in
+    let the-from2 = c .before .before .before .before .from2 in
+    let the-pre = c .before .before .before .before .before .before .before .before .before .before .before .before .before .pre in
+    let big = height-most (a .l .h) (the-pre .1 .0) in
+    let one = height-held-32 (a .l .h) (the-pre .1 .0) in
+    let fit = signature-passed (a .o) (a .l) (a .s .now) (the-pre .1 .1 .1) in
     let n : 8 + 32 * (a .o .p + 1) + 4 ≡ 12 + 32 * (a .o .p + 1) = omega arith in
-    rw (c .climb .ensures, c .before .leaf .ensures, c .before .before .before .candidate .ensures, c .before .before .from3 .ensures, c .before .before .before .before .from2 .ensures, c .before .before .before .before .before .text-hash .ensures, c .before .before .before .before .before .before .front .ensures, c .before .before .before .before .before .before .before .from .ensures, c .before .before .before .before .before .before .before .before .before .id-of .ensures, c .before .before .before .before .before .before .before .before .u32-at .ensures, one, n)
+    rw (
+      c .climb .ensures,
+      c .before .leaf .ensures,
+      c .before .before .before .candidate .ensures,
+      c .before .before .from3 .ensures,
+      the-from2 .ensures,
+      the-text-hash .ensures,
+      the-front .ensures,
+      the-from .ensures,
+      the-id-of .ensures,
+      the-u32-at .ensures,
+      one,
+      n,
+    )
 
 pub root-spec : {M : Type 1} → statement M
 root-spec =

@@ -1,7 +1,8 @@
 use lib.ListN.{length}
 use borrow.Author.Tests.{eq-eqb, ne-eqb}
 use borrow.Author.Needs.{needs}
-use Rattle.lms.specs.Check.{signatureFits, signatureSize, typePlace}
+use Rattle.lms.specs.Signature.{signatureSize}
+use Rattle.lms.specs.Check.{signatureFits, typePlace}
 use Rattle.lms.proofs.Growth.{height-held}
 use Rattle.lms.proofs.checking.signature_fits.Statement.{statement}
 use Rattle.lms.proofs.checking.signature_fits.Tie as tie
@@ -23,14 +24,23 @@ add-if1-3 c = search needs
 
 returns : tie.Need-returns
 unfolding signatureFits signatureSize
-returns c = rw (ne-eqb (length (c .before .before .args .s .now)) (signatureSize (c .before .before .args .o) (c .before .before .args .l)) (c .if1 .taken))
+returns c =
+    let the-args = c .before .before .args in
+    rw (ne-eqb (length (the-args .s .now)) (signatureSize (the-args .o) (the-args .l)) (c .if1 .taken))
 
 u32-at-requires : tie.Need-u32-at-requires
 u32-at-requires c κs = search needs
 
 returns-2 : tie.Need-returns-2
 unfolding signatureFits signatureSize
-returns-2 c = rw (eq-eqb (length (c .before .before .before .before .before .args .s .now)) (signatureSize (c .before .before .before .before .before .args .o) (c .before .before .before .before .before .args .l)) (c .before .before .before .if1 .left), ← c .before .before .u32-at .ensures, ne-eqb (c .before .before .u32-at .result) (c .before .before .before .before .before .args .o .otstype) (c .if2 .taken))
+returns-2 c =
+    let the-args = c .before .before .before .before .before .args in
+    let the-u32-at = c .before .before .u32-at in
+    rw (
+      eq-eqb (length (the-args .s .now)) (signatureSize (the-args .o) (the-args .l)) (c .before .before .before .if1 .left),
+      ← the-u32-at .ensures,
+      ne-eqb (the-u32-at .result) (the-args .o .otstype) (c .if2 .taken),
+    )
 
 add-u32-at : tie.Need-add-u32-at
 add-u32-at c = search needs
@@ -46,7 +56,20 @@ u32-at-requires-2 c κs = search needs
 
 returns-3 : tie.Need-returns-3
 unfolding signatureFits signatureSize typePlace
-returns-3 c = rw (eq-eqb (length (c .before .before .before .before .before .before .before .before .args .s .now)) (signatureSize (c .before .before .before .before .before .before .before .before .args .o) (c .before .before .before .before .before .before .before .before .args .l)) (c .before .before .before .before .before .before .if1 .left), ← c .before .before .before .before .before .u32-at .ensures, eq-eqb (c .before .before .before .before .before .u32-at .result) (c .before .before .before .before .before .before .before .before .args .o .otstype) (c .before .before .before .if2 .left), ← c .before .before .u32-at2 .ensures, ne-eqb (c .before .before .u32-at2 .result) (c .before .before .before .before .before .before .before .before .args .l .lmstype) (c .if3 .taken))
+returns-3 c =
+    let the-if1 = c .before .before .before .before .before .before .if1 in
+    let the-args = c .before .before .before .before .before .before .before .before .args in
+    let the-u32-at = c .before .before .before .before .before .u32-at in
+    let the-u32-at2 = c .before .before .u32-at2 in
+    rw (
+      eq-eqb (length (the-args .s .now)) (signatureSize (the-args .o) (the-args .l)) (the-if1 .left),
+      ← the-u32-at .ensures,
+      eq-eqb
+          (the-u32-at .result) (the-args .o .otstype) (c .before .before .before .if2 .left),
+      ← the-u32-at2 .ensures,
+      ne-eqb (the-u32-at2 .result)
+          (the-args .l .lmstype) (c .if3 .taken),
+    )
 
 u32-at-requires-3 : tie.Need-u32-at-requires-3
 u32-at-requires-3 c κs = search needs
@@ -59,7 +82,24 @@ shl-result c = search needs
 
 returns-4 : tie.Need-returns-4
 unfolding signatureFits signatureSize typePlace
-returns-4 c = rw (eq-eqb (length (c .before .before .before .before .before .before .before .before .before .args .s .now)) (signatureSize (c .before .before .before .before .before .before .before .before .before .args .o) (c .before .before .before .before .before .before .before .before .before .args .l)) (c .before .before .before .before .before .before .before .if1 .left), ← c .before .before .before .before .before .before .u32-at .ensures, eq-eqb (c .before .before .before .before .before .before .u32-at .result) (c .before .before .before .before .before .before .before .before .before .args .o .otstype) (c .before .before .before .before .if2 .left), ← c .before .before .before .u32-at2 .ensures, eq-eqb (c .before .before .before .u32-at2 .result) (c .before .before .before .before .before .before .before .before .before .args .l .lmstype) (c .before .if3 .left), ← c .u32-at3 .ensures, height-held (c .before .before .before .before .before .before .before .before .before .args .l .h) (c .before .before .before .before .before .before .before .before .before .pre .1))
+returns-4 c =
+    let the-pre = c .before .before .before .before .before .before .before .before .before .pre in
+    let the-if1 = c .before .before .before .before .before .before .before .if1 in
+    let the-if2 = c .before .before .before .before .if2 in
+    let the-args = c .before .before .before .before .before .before .before .before .before .args in
+    let the-u32-at = c .before .before .before .before .before .before .u32-at in
+    let the-u32-at2 = c .before .before .before .u32-at2 in
+    rw (
+      eq-eqb (length (the-args .s .now)) (signatureSize (the-args .o) (the-args .l)) (the-if1 .left),
+      ← the-u32-at .ensures,
+      eq-eqb
+          (the-u32-at .result) (the-args .o .otstype) (the-if2 .left),
+      ← the-u32-at2 .ensures,
+      eq-eqb (the-u32-at2 .result) (the-args .l .lmstype)
+          (c .before .if3 .left),
+      ← c .u32-at3 .ensures,
+      height-held (the-args .l .h) (the-pre .1),
+    )
 
 pub signature-fits-spec : {M : Type 1} → statement M
 signature-fits-spec =

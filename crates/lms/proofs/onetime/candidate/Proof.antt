@@ -49,7 +49,17 @@ cast-closed : tie.Need-cast-closed Inv-loop μ-loop
 cast-closed c = search needs
 
 sub-closed : tie.Need-sub-closed Inv-loop μ-loop
-sub-closed c = let wide = power-most (c .before .before .before .before .before .before .before .before .before .before .args .o .w) (c .before .before .before .before .before .before .before .before .before .before .pre .0 .w-most) in let most = coef-most (c .before .before .before .before .before .before .before .summed .result) (c .before .before .before .loop .i) (c .before .before .before .before .before .before .before .before .before .before .args .o .w) in omega (arith, c .coef .ensures, c .before .before .before .before .before .before .before .before .last .ensures)
+sub-closed c =
+    let the-pre = c .before .before .before .before .before .before .before .before .before .before .pre in
+    let the-last = c .before .before .before .before .before .before .before .before .last in
+    let the-summed = c .before .before .before .before .before .before .before .summed in
+    let the-args = c .before .before .before .before .before .before .before .before .before .before .args in
+    let wide = power-most (the-args .o .w) (the-pre .0 .w-most) in
+    let most = coef-most (the-summed .result) (c .before .before .before .loop .i) (the-args .o .w) in omega (
+      arith,
+      c .coef .ensures,
+      the-last .ensures,
+    )
 
 mul-from : tie.Need-mul-from Inv-loop μ-loop
 mul-from c = search needs
@@ -58,7 +68,18 @@ from-requires : tie.Need-from-requires Inv-loop μ-loop
 from-requires c κs = search needs
 
 closed-requires : tie.Need-closed-requires Inv-loop μ-loop
-closed-requires c κs = let wide = power-most (c .before .before .before .before .before .before .before .before .before .before .before .args .o .w) (c .before .before .before .before .before .before .before .before .before .before .before .pre .0 .w-most) in let most = coef-most (c .before .before .before .before .before .before .before .before .summed .result) (c .before .before .before .before .loop .i) (c .before .before .before .before .before .before .before .before .before .before .before .args .o .w) in (omega (arith, c .before .coef .ensures, c .before .before .before .before .before .before .before .before .before .last .ensures), omega (arith, ap length (c .from .ensures), length-drop (32 * c .before .before .before .before .loop .i) (c .before .before .before .before .before .before .before .before .before .before .before .args .y .now)))
+closed-requires c κs =
+    let the-pre = c .before .before .before .before .before .before .before .before .before .before .before .pre in
+    let the-last = c .before .before .before .before .before .before .before .before .before .last in
+    let the-summed = c .before .before .before .before .before .before .before .before .summed in
+    let the-args = c .before .before .before .before .before .before .before .before .before .before .before .args in
+    let the-loop = c .before .before .before .before .loop in
+    let wide = power-most (the-args .o .w) (the-pre .0 .w-most) in
+    let most = coef-most (the-summed .result) (the-loop .i) (the-args .o .w) in (
+      omega (arith, c .before .coef .ensures, the-last .ensures),
+      omega
+          (arith, ap length (c .from .ensures), length-drop (32 * the-loop .i) (the-args .y .now)),
+    )
 
 slice-aggregate-update : tie.Need-slice-aggregate-update Inv-loop μ-loop
 slice-aggregate-update c = search needs
@@ -67,20 +88,38 @@ update-requires : tie.Need-update-requires Inv-loop μ-loop
 update-requires c κs = search needs
 
 add-i : tie.Need-add-i Inv-loop μ-loop
-add-i c = omega (arith, c .before .before .before .before .before .before .before .loop .inv .0, c .before .before .before .before .before .before .loop-test .taken, c .before .before .before .before .before .before .before .before .before .before .before .before .before .before .pre .0 .p-most)
+add-i c =
+    let the-pre = c .before .before .before .before .before .before .before .before .before .before .before .before .before .before .pre in
+    let the-loop = c .before .before .before .before .before .before .before .loop in
+    let the-loop-test = c .before .before .before .before .before .before .loop-test in
+    omega (arith, the-loop .inv .0, the-loop-test .taken, the-pre .0 .p-most)
 
 loop-less : tie.Need-loop-less Inv-loop μ-loop
 loop-less c = search needs
 
 loop-again : tie.Need-loop-again Inv-loop μ-loop
-loop-again c = (search needs, rw (cat-more, ← append-assoc, ← c .before .before .before .before .coef .ensures, ← c .before .before .before .from .ensures, ← c .before .before .closed .ensures) (c .update .ensures _ (c .before .before .before .before .before .before .before .loop .inv .1)))
+loop-again c = (
+  search needs,
+  rw (
+    cat-more,
+    ← append-assoc,
+    ← c .before .before .before .before .coef .ensures,
+    ← c .before .before .before .from .ensures,
+    ← c .before .before .closed .ensures,
+  ) (c .update .ensures _ (c .before .before .before .before .before .before .before .loop .inv .1)),
+)
 
 finish-requires : tie.Need-finish-requires Inv-loop μ-loop
 finish-requires c κs = search needs
 
 returns : tie.Need-returns Inv-loop μ-loop
 unfolding endsHash closed digit
-returns c = let e : c .before .before .loop .i ≡ c .before .before .before .before .before .before .before .before .before .args .o .p = omega arith in c .finish .ensures _ (rw (e, c .before .before .before .before .before .before .before .last .ensures, c .before .before .before .before .before .before .summed .ensures) at (c .before .before .loop .inv .1))
+returns c =
+    let the-args = c .before .before .before .before .before .before .before .before .before .args in
+    let the-last = c .before .before .before .before .before .before .before .last in
+    let the-summed = c .before .before .before .before .before .before .summed in
+    let the-loop = c .before .before .loop in
+    let e : the-loop .i ≡ the-args .o .p = omega arith in c .finish .ensures _ (rw (e, the-last .ensures, the-summed .ensures) at (the-loop .inv .1))
 
 pub candidate-spec : {M : Type 1} → statement M
 candidate-spec =

@@ -38,7 +38,9 @@ loop-again : tie.Need-loop-again Inv-loop μ-loop
 loop-again c = (search needs, rw (chain-more, ← c .before .before .loop .inv .1) (c .link .ensures))
 
 returns : tie.Need-returns Inv-loop μ-loop
-returns c = let e : c .before .loop .j ≡ c .before .before .args .k = omega arith in rw e at (c .before .loop .inv .1)
+returns c =
+    let the-loop = c .before .loop in
+    let e : the-loop .j ≡ c .before .before .args .k = omega arith in rw e at (the-loop .inv .1)
 
 pub chain-spec : {M : Type 1} → statement M
 chain-spec =

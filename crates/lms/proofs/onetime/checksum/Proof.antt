@@ -28,22 +28,53 @@ slice-aggregate-coef : tie.Need-slice-aggregate-coef Inv-loop μ-loop
 slice-aggregate-coef c = search needs
 
 coef-requires : tie.Need-coef-requires Inv-loop μ-loop
-coef-requires c κs = let wide = power-most (c .before .before .before .before .args .o .w) (c .before .before .before .before .pre .w-most) in let few = div-le-self 256 (c .before .before .before .before .args .o .w) in (c .before .before .before .before .pre .w-some, (c .before .before .before .before .pre .w-most, omega arith))
+coef-requires c κs =
+    let the-args = c .before .before .before .before .args in
+    let the-pre = c .before .before .before .before .pre in
+    let wide = power-most (the-args .o .w) (the-pre .w-most) in
+    let few = div-le-self 256 (the-args .o .w) in (the-pre .w-some, (the-pre .w-most, omega arith))
 
 sub-sum : tie.Need-sub-sum Inv-loop μ-loop
-sub-sum c = let most = coef-most (c .before .before .before .before .before .args .t2) (c .before .before .before .loop .i) (c .before .before .before .before .before .args .o .w) in omega (arith, c .coef .ensures, c .before .before .before .before .last .ensures)
+sub-sum c =
+    let the-last = c .before .before .before .before .last in
+    let the-args = c .before .before .before .before .before .args in
+    let most = coef-most (the-args .t2) (c .before .before .before .loop .i) (the-args .o .w) in omega (arith, c .coef .ensures, the-last .ensures)
 
 add-sum : tie.Need-add-sum Inv-loop μ-loop
-add-sum c = let wide = power-most (c .before .before .before .before .before .args .o .w) (c .before .before .before .before .before .pre .w-most) in let few = div-le-self 256 (c .before .before .before .before .before .args .o .w) in omega (arith, c .before .before .before .before .last .ensures)
+add-sum c =
+    let the-pre = c .before .before .before .before .before .pre in
+    let the-last = c .before .before .before .before .last in
+    let the-args = c .before .before .before .before .before .args in
+    let wide = power-most (the-args .o .w) (the-pre .w-most) in
+    let few = div-le-self 256 (the-args .o .w) in omega (arith, the-last .ensures)
 
 add-i : tie.Need-add-i Inv-loop μ-loop
-add-i c = let wide = power-most (c .before .before .before .before .before .args .o .w) (c .before .before .before .before .before .pre .w-most) in let few = div-le-self 256 (c .before .before .before .before .before .args .o .w) in omega arith
+add-i c =
+    let the-pre = c .before .before .before .before .before .pre in
+    let the-args = c .before .before .before .before .before .args in
+    let wide = power-most (the-args .o .w) (the-pre .w-most) in
+    let few = div-le-self 256 (the-args .o .w) in omega arith
 
 loop-less : tie.Need-loop-less Inv-loop μ-loop
 loop-less c = search needs
 
 loop-again : tie.Need-loop-again Inv-loop μ-loop
-loop-again c = let wide = power-most (c .before .before .before .before .before .args .o .w) (c .before .before .before .before .before .pre .w-most) in let few = div-le-self 256 (c .before .before .before .before .before .args .o .w) in (search needs, (omega (arith, c .before .before .before .before .last .ensures), rw (sum-more, ← c .before .before .before .loop .inv .1 .1, c .coef .ensures, c .before .before .before .before .last .ensures)))
+loop-again c =
+    let the-args = c .before .before .before .before .before .args in
+    let the-last = c .before .before .before .before .last in
+    let wide = power-most (the-args .o .w) (c .before .before .before .before .before .pre .w-most) in
+    let few = div-le-self 256 (the-args .o .w) in (
+      search needs,
+      (
+        omega (arith, the-last .ensures),
+        rw (
+          sum-more,
+          ← c .before .before .before .loop .inv .1 .1,
+          c .coef .ensures,
+          the-last .ensures,
+        ),
+      ),
+    )
 
 shl-be2 : tie.Need-shl-be2 Inv-loop μ-loop
 shl-be2 c = search needs
@@ -56,7 +87,19 @@ be2-requires c κs = search needs
 
 returns : tie.Need-returns Inv-loop μ-loop
 unfolding Cksm
-returns c = let wide = power-most (c .before .before .before .before .args .o .w) (c .before .before .before .before .pre .w-most) in let few = div-le-self 256 (c .before .before .before .before .args .o .w) in let e : c .before .before .loop .i ≡ 256 / c .before .before .before .before .args .o .w = omega arith in rw (c .be2 .ensures, sum-bytes (c .before .before .loop .sum) (c .before .before .before .before .args .o .ls) (omega arith) (c .before .before .before .before .pre .ls-most), c .before .before .loop .inv .1 .1, e)
+returns c =
+    let the-args = c .before .before .before .before .args in
+    let the-pre = c .before .before .before .before .pre in
+    let the-loop = c .before .before .loop in
+    let wide = power-most (the-args .o .w) (the-pre .w-most) in
+    let few = div-le-self 256 (the-args .o .w) in
+    let e : the-loop .i ≡ 256 / the-args .o .w = omega arith in rw (
+      c .be2 .ensures,
+      sum-bytes (the-loop .sum) (the-args .o .ls) (omega arith)
+          (the-pre .ls-most),
+      the-loop .inv .1 .1,
+      e,
+    )
 
 pub checksum-spec : {M : Type 1} → statement M
 checksum-spec =

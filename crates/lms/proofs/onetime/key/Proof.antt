@@ -39,7 +39,11 @@ cast-opened : tie.Need-cast-opened Inv-loop μ-loop
 cast-opened c = search needs
 
 opened-requires : tie.Need-opened-requires Inv-loop μ-loop
-opened-requires c κs = omega (arith, power-most (c .before .before .before .before .before .before .args .o .w) (c .before .before .before .before .before .before .pre .w-most), c .before .before .before .before .before .last .ensures)
+opened-requires c κs =
+    let the-args = c .before .before .before .before .before .before .args in
+    let the-pre = c .before .before .before .before .before .before .pre in
+    let the-last = c .before .before .before .before .before .last in
+    omega (arith, power-most (the-args .o .w) (the-pre .w-most), the-last .ensures)
 
 slice-aggregate-update : tie.Need-slice-aggregate-update Inv-loop μ-loop
 slice-aggregate-update c = search needs
@@ -54,14 +58,22 @@ loop-less : tie.Need-loop-less Inv-loop μ-loop
 loop-less c = search needs
 
 loop-again : tie.Need-loop-again Inv-loop μ-loop
-loop-again c = (search needs, rw (cat-more, ← append-assoc, ← c .before .before .opened .ensures) (c .update .ensures _ (c .before .before .before .before .loop .inv .1)))
+loop-again c = (
+  search needs,
+  rw (cat-more, ← append-assoc, ← c .before .before .opened .ensures) (c .update .ensures _
+      (c .before .before .before .before .loop .inv .1)),
+)
 
 finish-requires : tie.Need-finish-requires Inv-loop μ-loop
 finish-requires c κs = search needs
 
 returns : tie.Need-returns Inv-loop μ-loop
 unfolding K endsHash chainEnd
-returns c = let e : c .before .before .loop .i ≡ c .before .before .before .before .before .before .before .args .o .p = omega arith in c .finish .ensures _ (rw (e, c .before .before .before .before .before .before .last .ensures) at (c .before .before .loop .inv .1))
+returns c =
+    let the-args = c .before .before .before .before .before .before .before .args in
+    let the-last = c .before .before .before .before .before .before .last in
+    let the-loop = c .before .before .loop in
+    let e : the-loop .i ≡ the-args .o .p = omega arith in c .finish .ensures _ (rw (e, the-last .ensures) at (the-loop .inv .1))
 
 pub key-spec : {M : Type 1} → statement M
 key-spec =

@@ -37,7 +37,12 @@ put-requires-3 : tie.Need-put-requires-3
 put-requires-3 c κs = search needs
 
 returns : tie.Need-returns
-returns c = prefix-laid (c .before .before .before .before .before .before .before .before .before .before .before .before .before .before .args .t1) _ _ _ _ _ _ (c .before .before .before .before .before .before .before .before .before .before .before .before .before .before .args .r) (c .before .before .before .before .before .before .before .before .before .before .before .before .before .before .args .d) (search needs) (search needs) (c .before .before .before .before .before .before .before .before .before .before .before .put .ensures) (c .before .before .before .before .before .before .before .before .be4 .ensures) (c .before .before .before .before .before .before .put2 .ensures) (c .before .before .before .be2 .ensures) (c .before .put3 .ensures)
+returns c =
+    let the-args = c .before .before .before .before .before .before .before .before .before .before .before .before .before .before .args in
+    prefix-laid (the-args .t1) _ _ _ _ _ _ (the-args .r) (the-args .d) (search needs) (search needs)
+    (c .before .before .before .before .before .before .before .before .before .before .before .put .ensures)
+    (c .before .before .before .before .before .before .before .before .be4 .ensures)
+    (c .before .before .before .before .before .before .put2 .ensures) (c .before .before .before .be2 .ensures) (c .before .put3 .ensures)
 
 pub prefix-spec : {M : Type 1} → statement M
 prefix-spec =

@@ -26,7 +26,9 @@ put-requires-2 : tie.Need-put-requires-2
 put-requires-2 c κs = search needs
 
 returns : tie.Need-returns
-returns c = filled-twice _ (c .before .before .before .before .before .before .before .before .before .args .t2) _ _ _ 32 (search needs) (search needs) (c .before .before .before .before .before .before .put .ensures) (c .before .put2 .ensures) ∙ rw (c .before .before .before .checksum .ensures)
+returns c =
+    filled-twice _ (c .before .before .before .before .before .before .before .before .before .args .t2) _ _ _ 32 (search needs) (search needs)
+    (c .before .before .before .before .before .before .put .ensures) (c .before .put2 .ensures) ∙ rw (c .before .before .before .checksum .ensures)
 
 pub summed-spec : {M : Type 1} → statement M
 summed-spec =

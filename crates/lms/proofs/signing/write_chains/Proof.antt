@@ -26,7 +26,9 @@ summed-requires c κs = search needs
 
 loop-holds : tie.Need-loop-holds Inv-loop μ-loop
 unfolding cat
-loop-holds c = (search needs, sym (written-none (c .before .before .args .place .now) (c .before .before .args .at) (omega (arith, c .before .before .pre .1))))
+loop-holds c =
+    let the-args = c .before .before .args in
+    (search needs, sym (written-none (the-args .place .now) (the-args .at) (omega (arith, c .before .before .pre .1))))
 
 cast-opened : tie.Need-cast-opened Inv-loop μ-loop
 cast-opened c = search needs
@@ -38,7 +40,12 @@ coef-requires : tie.Need-coef-requires Inv-loop μ-loop
 coef-requires c κs = search needs
 
 opened-requires : tie.Need-opened-requires Inv-loop μ-loop
-opened-requires c κs = let wide = power-most (c .before .before .before .before .before .before .args .o .w) (c .before .before .before .before .before .before .pre .0 .w-most) in let most = coef-most (c .before .before .before .before .summed .result) (c .before .before .before .loop .i) (c .before .before .before .before .before .before .args .o .w) in omega (arith, c .coef .ensures)
+opened-requires c κs =
+    let the-pre = c .before .before .before .before .before .before .pre in
+    let the-summed = c .before .before .before .before .summed in
+    let the-args = c .before .before .before .before .before .before .args in
+    let wide = power-most (the-args .o .w) (the-pre .0 .w-most) in
+    let most = coef-most (the-summed .result) (c .before .before .before .loop .i) (the-args .o .w) in omega (arith, c .coef .ensures)
 
 mul-put : tie.Need-mul-put Inv-loop μ-loop
 mul-put c = search needs
@@ -59,18 +66,31 @@ loop-less : tie.Need-loop-less Inv-loop μ-loop
 loop-less c = search needs
 
 loop-again : tie.Need-loop-again Inv-loop μ-loop
-loop-again c = let a = c .before .before .before .before .before .before .before .before .before .before .before .before .args in let d = c .before .before .before .before .before .before .before .before .before .before .summed .result in (
-  search needs,
-  laid-more (a .place .now) (λ j. chain (prefix (a .id) (a .q) j) 0 (coef d j (a .o .w)) (secret (a .id) (bytes (a .seed)) (a .q) j)) (a .at) (c .before .before .before .before .before .before .before .before .before .loop .i) (a .o .p) _ (c .before .before .before .before .before .before .before .before .before .loop .place) _
-      (λ j g. chain-length _ _ 0 (coef d j (a .o .w)) (secret-length (a .id) (bytes (a .seed)) (a .q) j)) (c .before .before .before .before .before .before .before .before .loop-test .taken) (c .before .before .before .before .before .before .before .before .before .before .before .before .pre .1) (c .before .before .before .before .before .before .before .before .before .loop .inv .1) (c .before .before .before .before .before .opened .ensures ∙ rw (c .before .before .before .before .before .before .coef .ensures)) (c .before .before .put .ensures),
-)
+loop-again c =
+    let the-loop = c .before .before .before .before .before .before .before .before .before .loop in
+    let a = c .before .before .before .before .before .before .before .before .before .before .before .before .args in
+    let d = c .before .before .before .before .before .before .before .before .before .before .summed .result in (
+      search needs,
+      laid-more (a .place .now) (λ j. chain (prefix (a .id) (a .q) j) 0 (coef d j (a .o .w)) (secret (a .id) (bytes (a .seed)) (a .q) j)) (a .at)
+          (the-loop .i) (a .o .p) _ (the-loop .place) _
+          (λ j g. chain-length _ _ 0 (coef d j (a .o .w)) (secret-length (a .id) (bytes (a .seed)) (a .q) j))
+          (c .before .before .before .before .before .before .before .before .loop-test .taken)
+          (c .before .before .before .before .before .before .before .before .before .before .before .before .pre .1) (the-loop .inv .1)
+          (c .before .before .before .before .before .opened .ensures ∙ rw (c .before .before .before .before .before .before .coef .ensures))
+          (c .before .before .put .ensures),
+    )
 
 same-length : tie.Need-same-length Inv-loop μ-loop
-same-length c = ap length (c .before .loop .inv .1) ∙ written-length (c .before .before .before .before .args .place .now) (c .before .before .before .before .args .at) _
+same-length c =
+    let the-args = c .before .before .before .before .args in
+    ap length (c .before .loop .inv .1) ∙ written-length (the-args .place .now) (the-args .at) _
 
 returns : tie.Need-returns Inv-loop μ-loop
 unfolding opened digit
-returns c = let e : c .before .loop .i ≡ c .before .before .before .before .args .o .p = omega arith in rw (e, c .before .before .summed .ensures) at (c .before .loop .inv .1)
+returns c =
+    let the-args = c .before .before .before .before .args in
+    let the-loop = c .before .loop in
+    let e : the-loop .i ≡ the-args .o .p = omega arith in rw (e, c .before .before .summed .ensures) at (the-loop .inv .1)
 
 pub write-chains-spec : {M : Type 1} → statement M
 write-chains-spec =

@@ -27,11 +27,17 @@ shl-leaf : tie.Need-shl-leaf Inv-loop μ-loop
 shl-leaf c = search needs
 
 add-leaf : tie.Need-add-leaf Inv-loop μ-loop
-add-leaf c = let a = c .before .before .args in let big = height-most (a .h) (c .before .before .pre .0) in let one = height-held (a .h) (c .before .before .pre .0) in omega (arith, c .before .before .pre .1 .0)
+add-leaf c =
+    let the-pre = c .before .before .pre in
+    let a = c .before .before .args in
+    let big = height-most (a .h) (the-pre .0) in
+    let one = height-held (a .h) (the-pre .0) in omega (arith, the-pre .1 .0)
 
 loop-holds : tie.Need-loop-holds Inv-loop μ-loop
 unfolding cat
-loop-holds c = (search needs, sym (written-none (c .before .before .args .place .now) (c .before .before .args .at) (omega (arith, c .before .before .pre .1 .1 .1))))
+loop-holds c =
+    let the-args = c .before .before .args in
+    (search needs, sym (written-none (the-args .place .now) (the-args .at) (omega (arith, c .before .before .pre .1 .1 .1))))
 
 mul-put : tie.Need-mul-put Inv-loop μ-loop
 mul-put c = search needs
@@ -43,7 +49,14 @@ shr-node-at : tie.Need-shr-node-at Inv-loop μ-loop
 shr-node-at c = search needs
 
 node-at-requires : tie.Need-node-at-requires Inv-loop μ-loop
-node-at-requires c κs = let a = c .before .before .before .before .before .args in let big = height-most (a .h) (c .before .before .before .before .before .pre .0) in let one = height-held (a .h) (c .before .before .before .before .before .pre .0) in let two = pow-suc 2 (a .h) in let in-tree = beside-in (a .h) (a .q) (c .before .before .loop .i) (1 * 2 ^ a .h % 18446744073709551616 + a .q) (omega arith) (c .before .before .before .before .before .pre .1 .0) (c .before .loop-test .taken) in
+node-at-requires c κs =
+    let a = c .before .before .before .before .before .args in
+    let the-pre = c .before .before .before .before .before .pre in
+    let big = height-most (a .h) (the-pre .0) in
+    let one = height-held (a .h) (the-pre .0) in
+    let two = pow-suc 2 (a .h) in
+    let in-tree = beside-in (a .h) (a .q) (c .before .before .loop .i) (1 * 2 ^ a .h % 18446744073709551616 + a .q) (omega arith) (the-pre .1 .0)
+    (c .before .loop-test .taken) in
     (in-tree .0, omega (arith, in-tree .1))
 
 put-requires : tie.Need-put-requires Inv-loop μ-loop
@@ -56,20 +69,37 @@ loop-less : tie.Need-loop-less Inv-loop μ-loop
 loop-less c = search needs
 
 loop-again : tie.Need-loop-again Inv-loop μ-loop
-loop-again c = let a = c .before .before .before .before .before .before .before .before .before .args in let big = height-most (a .h) (c .before .before .before .before .before .before .before .before .before .pre .0) in let one = height-held (a .h) (c .before .before .before .before .before .before .before .before .before .pre .0) in
-    let in-tree : (j : ℕ) → j < a .h → (0 < bitXor ((1 * 2 ^ a .h % 18446744073709551616 + a .q) / 2 ^ j) 1) × (bitXor ((1 * 2 ^ a .h % 18446744073709551616 + a .q) / 2 ^ j) 1 < 2 ^ suc (a .h)) =
-    λ j g. beside-in (a .h) (a .q) j (1 * 2 ^ a .h % 18446744073709551616 + a .q) (omega arith) (c .before .before .before .before .before .before .before .before .before .pre .1 .0) g in (
+loop-again c =
+    let the-pre = c .before .before .before .before .before .before .before .before .before .pre in
+    let the-loop = c .before .before .before .before .before .before .loop in
+    let a = c .before .before .before .before .before .before .before .before .before .args in
+    let big = height-most (a .h) (the-pre .0) in
+    let one = height-held (a .h) (the-pre .0) in
+    let in-tree : (j : ℕ) → j < a .h → (0 < bitXor ((1 * 2 ^ a .h % 18446744073709551616 + a .q) / 2 ^ j) 1) × (bitXor
+    ((1 * 2 ^ a .h % 18446744073709551616 + a .q) / 2 ^ j) 1 < 2 ^ suc (a .h)) =
+    λ j g. beside-in (a .h) (a .q) j (1 * 2 ^ a .h % 18446744073709551616 + a .q) (omega arith) (the-pre .1 .0) g in (
       search needs,
-      laid-more (a .place .now) (λ j. nodeAt (a .tree .now) (bitXor ((1 * 2 ^ a .h % 18446744073709551616 + a .q) / 2 ^ j) 1)) (a .at) (c .before .before .before .before .before .before .loop .i) (a .h) _ (c .before .before .before .before .before .before .loop .place) _
-          (λ j g. node-whole (a .tree .now) (a .h) _ (c .before .before .before .before .before .before .before .before .before .pre .1 .1 .0) (in-tree j g .0) (in-tree j g .1)) (c .before .before .before .before .before .loop-test .taken) (c .before .before .before .before .before .before .before .before .before .pre .1 .1 .1) (c .before .before .before .before .before .before .loop .inv .1) (c .before .before .before .node-at .ensures) (c .before .before .put .ensures),
+      laid-more (a .place .now) (λ j. nodeAt (a .tree .now) (bitXor ((1 * 2 ^ a .h % 18446744073709551616 + a .q) / 2 ^ j) 1)) (a .at) (the-loop .i)
+          (a .h) _ (the-loop .place) _
+          (λ j g. node-whole (a .tree .now) (a .h) _ (the-pre .1 .1 .0) (in-tree j g .0) (in-tree j g .1))
+          (c .before .before .before .before .before .loop-test .taken) (the-pre .1 .1 .1) (the-loop .inv .1)
+          (c .before .before .before .node-at .ensures) (c .before .before .put .ensures),
     )
 
 same-length : tie.Need-same-length Inv-loop μ-loop
-same-length c = ap length (c .before .loop .inv .1) ∙ written-length (c .before .before .before .before .args .place .now) (c .before .before .before .before .args .at) _
+same-length c =
+    let the-args = c .before .before .before .before .args in
+    ap length (c .before .loop .inv .1) ∙ written-length (the-args .place .now) (the-args .at) _
 
 returns : tie.Need-returns Inv-loop μ-loop
 unfolding path pathNode
-returns c = let a = c .before .before .before .before .args in let big = height-most (a .h) (c .before .before .before .before .pre .0) in let one = height-held (a .h) (c .before .before .before .before .pre .0) in let e : c .before .loop .i ≡ a .h = omega arith in rw (e, one) at (c .before .loop .inv .1)
+returns c =
+    let a = c .before .before .before .before .args in
+    let the-pre = c .before .before .before .before .pre in
+    let the-loop = c .before .loop in
+    let big = height-most (a .h) (the-pre .0) in
+    let one = height-held (a .h) (the-pre .0) in
+    let e : the-loop .i ≡ a .h = omega arith in rw (e, one) at (the-loop .inv .1)
 
 pub write-path-spec : {M : Type 1} → statement M
 write-path-spec =

@@ -24,10 +24,30 @@ shl-r : tie.Need-shl-r Inv-loop μ-loop
 shl-r c = search needs
 
 sub-r : tie.Need-sub-r Inv-loop μ-loop
-sub-r c = let big = height-most (c .before .args .h) (c .before .pre .1 .0) in let all = nodes-held (c .before .args .h) (c .before .pre .1 .0) in let two = pow-suc 2 (c .before .args .h) in omega (arith, pow-pos (c .before .args .h))
+sub-r c =
+    let the-args = c .before .args in
+    let the-pre = c .before .pre in
+    let big = height-most (the-args .h) (the-pre .1 .0) in
+    let all = nodes-held (the-args .h) (the-pre .1 .0) in
+    let two = pow-suc 2 (the-args .h) in omega (arith, pow-pos (the-args .h))
 
 loop-holds : tie.Need-loop-holds Inv-loop μ-loop
-loop-holds c = let big = height-most (c .before .args .h) (c .before .pre .1 .0) in let all = nodes-held (c .before .args .h) (c .before .pre .1 .0) in let two = pow-suc 2 (c .before .args .h) in (omega (arith, pow-pos (c .before .args .h)), (refl, (refl, none-placed (c .before .args .o) (c .before .args .h) (c .before .args .id) (bytes (c .before .args .seed)) _ (c .before .args .tree .now) (omega arith))))
+loop-holds c =
+    let the-args = c .before .args in
+    let the-pre = c .before .pre in
+    let big = height-most (the-args .h) (the-pre .1 .0) in
+    let all = nodes-held (the-args .h) (the-pre .1 .0) in
+    let two = pow-suc 2 (the-args .h) in (
+      omega (arith, pow-pos (the-args .h)),
+      (
+        refl,
+        (
+          refl,
+          none-placed (the-args .o) (the-args .h) (the-args .id)
+              (bytes (the-args .seed)) _ (the-args .tree .now) (omega arith),
+        ),
+      ),
+    )
 
 node-requires : tie.Need-node-requires Inv-loop μ-loop
 node-requires c κs = search needs
@@ -36,7 +56,12 @@ sub-put : tie.Need-sub-put Inv-loop μ-loop
 sub-put c = search needs
 
 mul-put : tie.Need-mul-put Inv-loop μ-loop
-mul-put c = let big = height-most (c .before .before .before .before .before .before .args .h) (c .before .before .before .before .before .before .pre .1 .0) in let all = nodes-held (c .before .before .before .before .before .before .args .h) (c .before .before .before .before .before .before .pre .1 .0) in let two = pow-suc 2 (c .before .before .before .before .before .before .args .h) in omega arith
+mul-put c =
+    let the-args = c .before .before .before .before .before .before .args in
+    let the-pre = c .before .before .before .before .before .before .pre in
+    let big = height-most (the-args .h) (the-pre .1 .0) in
+    let all = nodes-held (the-args .h) (the-pre .1 .0) in
+    let two = pow-suc 2 (the-args .h) in omega arith
 
 slice-aggregate-put : tie.Need-slice-aggregate-put Inv-loop μ-loop
 slice-aggregate-put c = search needs
@@ -51,15 +76,26 @@ loop-less : tie.Need-loop-less Inv-loop μ-loop
 loop-less c = search needs
 
 loop-again : tie.Need-loop-again Inv-loop μ-loop
-loop-again c = let big = height-most (c .before .before .before .before .before .before .before .before .before .before .args .h) (c .before .before .before .before .before .before .before .before .before .before .pre .1 .0) in let all = nodes-held (c .before .before .before .before .before .before .before .before .before .before .args .h) (c .before .before .before .before .before .before .before .before .before .before .pre .1 .0) in let two = pow-suc 2 (c .before .before .before .before .before .before .before .before .before .before .args .h) in
-    let room : treeSize (c .before .before .before .before .before .before .before .before .before .before .args .h) ≤ length (c .before .before .before .before .before .before .before .before .loop .tree) = omega (arith, c .before .before .before .before .before .before .before .before .loop .inv .1 .0, c .before .before .before .before .before .before .before .before .before .before .pre .1 .1) in
-    let lx : length (c .before .before .before .before .before .node .result) ≡ 32 = search needs in (
+loop-again c =
+    let the-args = c .before .before .before .before .before .before .before .before .before .before .args in
+    let the-pre = c .before .before .before .before .before .before .before .before .before .before .pre in
+    let the-loop = c .before .before .before .before .before .before .before .before .loop in
+    let the-loop-test = c .before .before .before .before .before .before .before .loop-test in
+    let the-node = c .before .before .before .before .before .node in
+    let the-put = c .before .before .put in
+    let big = height-most (the-args .h) (the-pre .1 .0) in
+    let all = nodes-held (the-args .h) (the-pre .1 .0) in
+    let two = pow-suc 2 (the-args .h) in
+    let room : treeSize (the-args .h) ≤ length (the-loop .tree) = omega (arith, the-loop .inv .1 .0, the-pre .1 .1) in
+    let lx : length (the-node .result) ≡ 32 = search needs in (
       omega arith,
       (
-        ap length (c .before .before .put .ensures) ∙ written-length (c .before .before .before .before .before .before .before .before .loop .tree) (32 * (c .before .before .before .before .before .before .before .before .loop .r - 1)) (c .before .before .before .before .before .node .result) ∙ c .before .before .before .before .before .before .before .before .loop .inv .1 .0,
+        ap length (the-put .ensures) ∙ written-length (the-loop .tree) (32 * (the-loop .r - 1)) (the-node .result) ∙ the-loop .inv .1 .0,
         (
-          ap (drop (treeSize (c .before .before .before .before .before .before .before .before .before .before .args .h))) (c .before .before .put .ensures) ∙ rest-stays (c .before .before .before .before .before .before .before .before .before .before .args .o) (c .before .before .before .before .before .before .before .before .before .before .args .h) (c .before .before .before .before .before .before .before .before .before .before .args .id) (bytes (c .before .before .before .before .before .before .before .before .before .before .args .seed)) (c .before .before .before .before .before .before .before .before .loop .r) (c .before .before .before .before .before .before .before .before .loop .tree) (c .before .before .before .before .before .node .result) room (c .before .before .before .before .before .before .before .loop-test .taken) (c .before .before .before .before .before .before .before .before .loop .inv .0) lx ∙ c .before .before .before .before .before .before .before .before .loop .inv .1 .1 .0,
-          rw (c .before .before .put .ensures) (one-placed (c .before .before .before .before .before .before .before .before .before .before .args .o) (c .before .before .before .before .before .before .before .before .before .before .args .h) (c .before .before .before .before .before .before .before .before .before .before .args .id) (bytes (c .before .before .before .before .before .before .before .before .before .before .args .seed)) (c .before .before .before .before .before .before .before .before .loop .r) (c .before .before .before .before .before .before .before .before .loop .tree) (c .before .before .before .before .before .node .result) room (c .before .before .before .before .before .before .before .loop-test .taken) (c .before .before .before .before .before .before .before .before .loop .inv .0) lx (c .before .before .before .before .before .node .ensures) (c .before .before .before .before .before .before .before .before .loop .inv .1 .1 .1)),
+          ap (drop (treeSize (the-args .h))) (the-put .ensures) ∙ rest-stays (the-args .o) (the-args .h) (the-args .id) (bytes (the-args .seed))
+              (the-loop .r) (the-loop .tree) (the-node .result) room (the-loop-test .taken) (the-loop .inv .0) lx ∙ the-loop .inv .1 .1 .0,
+          rw (the-put .ensures) (one-placed (the-args .o) (the-args .h) (the-args .id) (bytes (the-args .seed)) (the-loop .r) (the-loop .tree)
+              (the-node .result) room (the-loop-test .taken) (the-loop .inv .0) lx (the-node .ensures) (the-loop .inv .1 .1 .1)),
         ),
       ),
     )
@@ -68,7 +104,11 @@ same-length : tie.Need-same-length Inv-loop μ-loop
 same-length c = search needs
 
 returns : tie.Need-returns Inv-loop μ-loop
-returns c = let e : c .before .loop .r ≡ 0 = omega arith in all-placed (c .before .before .before .args .o) (c .before .before .before .args .h) (c .before .before .before .args .id) (bytes (c .before .before .before .args .seed)) (c .before .before .before .args .tree .now) (c .before .loop .tree) (c .before .before .before .pre .1 .1) (c .before .loop .inv .1 .1 .0) (rw e at (c .before .loop .inv .1 .1 .1))
+returns c =
+    let the-args = c .before .before .before .args in
+    let the-loop = c .before .loop in
+    let e : the-loop .r ≡ 0 = omega arith in all-placed (the-args .o) (the-args .h) (the-args .id) (bytes (the-args .seed)) (the-args .tree .now)
+    (the-loop .tree) (c .before .before .before .pre .1 .1) (the-loop .inv .1 .1 .0) (rw e at (the-loop .inv .1 .1 .1))
 
 pub grow-spec : {M : Type 1} → statement M
 grow-spec =

@@ -8,8 +8,8 @@ use Prim.Native.Nat.{ℕ, _≤_, _+_, _-_, _/_, _%_}
 use mathlib.Core.List.{List, _++_}
 use mathlib.Core.Path.{_≡_, refl, _∙_, sym, ap}
 use borrow.Author.Needs.{needs}
-use Rattle.sha256.proofs.stream.whole_blocks.Statement.{statement}
-use Rattle.sha256.proofs.stream.whole_blocks.Tie as tie
+use Rattle.sha256.proofs.value.whole_blocks.Statement.{statement}
+use Rattle.sha256.proofs.value.whole_blocks.Tie as tie
 
 abbrev Inv-loop : tie.InvT-loop
 Inv-loop s state₀ i₀ state i = (i ≤ length s) × ((i % 64 ≡ 0) × ((m : List ℕ) → length m % 64 ≡ 0 → state₀ ≡ hashValue (length m / 64) m → state ≡ hashValue ((length m + i) / 64) (m ++ s)))
