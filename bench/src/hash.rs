@@ -1,5 +1,6 @@
 //! SHA-256: the library's hash against plain Rust's.
-use crate::timing::Race;
+use crate::sample::bytes;
+use crate::timing::{Clock, Race};
 use crate::{library, plain, stack};
 use std::hint::black_box;
 
@@ -16,18 +17,6 @@ pub fn run() {
     }
 }
 
-/// Bytes that differ from place to place and from seed to seed.
-fn message(length: usize, seed: u64) -> Vec<u8> {
-    let mut x = seed.wrapping_mul(0x9e3779b97f4a7c15) | 1;
-    let next = || {
-        x ^= x << 13;
-        x ^= x >> 7;
-        x ^= x << 17;
-        (x >> 32) as u8
-    };
-    std::iter::repeat_with(next).take(length).collect()
-}
-
 /// Every length from 0 to 600, and longer ones about the ends of blocks up to 2 MiB.
 fn lengths() -> Vec<usize> {
     let mut all: Vec<usize> = (0..=600).collect();
@@ -41,7 +30,7 @@ fn lengths() -> Vec<usize> {
 fn compare() -> usize {
     let lengths = lengths();
     for &length in &lengths {
-        let message = message(length, length as u64);
+        let message = bytes(length, length as u64);
         let mut expected = [0; 32];
         plain::sha256(&message, &mut expected);
         let mut out = [0x5a; 40];
@@ -59,10 +48,12 @@ fn compare() -> usize {
 
 /// The rounds go through all lengths again and again, so that a quiet moment of the machine serves each of them.
 fn time(subjects: &[(&str, usize)]) {
-    let messages: Vec<Vec<u8>> = subjects.iter().map(|subject| message(subject.1, 1)).collect();
+    let messages: Vec<Vec<u8>> = subjects.iter().map(|subject| bytes(subject.1, 1)).collect();
     let mut out = [0; 32];
-    let mut races: Vec<Race> =
-        messages.iter().map(|message| Race::new(|| plain::sha256(black_box(message), black_box(&mut out)))).collect();
+    let mut races: Vec<Race> = messages
+        .iter()
+        .map(|message| Race::new(Clock::Wall, || plain::sha256(black_box(message), black_box(&mut out))))
+        .collect();
     let mut other = [0; 32];
     for _ in 0..ROUNDS {
         for (race, message) in races.iter_mut().zip(&messages) {
@@ -75,32 +66,17 @@ fn time(subjects: &[(&str, usize)]) {
         }
     }
     for (race, (name, length)) in races.iter().zip(subjects) {
-        print_race(name, ((length + 8) / 64 + 1) as f64, race);
+        race.print(name, ((length + 8) / 64 + 1) as u64);
     }
 }
 
-fn print_race(name: &str, compressions: f64, race: &Race) {
-    let (library, plain) = race.best();
-    println!(
-        "  {name:>6}  library {:>9.0}  plain {:>9.0}  ratio {:.3}  median of the rounds' ratios {:.3}",
-        compressions / library,
-        compressions / plain,
-        plain / library,
-        race.median_ratio(),
-    );
-}
-
-/// The stack below the call, with the return address: what a call uses beyond one of a function that does nothing.
+/// The stack below a call.
 fn stack_of(length: usize) -> usize {
-    let message = message(length, 2);
+    let message = bytes(length, 2);
     let mut out = [0; 32];
-    let mut call = |f: fn(&[u8], &mut [u8]) -> u32| {
-        stack::used(|| {
-            black_box(f)(black_box(&message), black_box(&mut out));
-        })
-    };
-    const RETURN_ADDRESS: usize = 8;
-    call(library::sha256) + RETURN_ADDRESS - call(nothing)
+    stack::of_call(library::sha256 as fn(&[u8], &mut [u8]) -> u32, nothing, |f| {
+        f(black_box(&message), black_box(&mut out));
+    })
 }
 
 fn nothing(_message: &[u8], _out: &mut [u8]) -> u32 {

@@ -1,9 +1,39 @@
 //! The functions of include/kozbrax.h behind safe wrappers.
 //! Nothing checks these declarations against the Rattle source: keep them as the header has them.
 
+use crate::lms::Signer;
+
 mod raw {
     extern "C" {
         pub fn kozbrax_sha256(message: *const u8, message_len: usize, out: *mut u8, out_len: usize) -> u32;
+        pub fn kozbrax_lms_generate(seed: *const u8, id: *const u8, tree: *mut u8, tree_len: usize) -> u32;
+        pub fn kozbrax_lms_public_key(
+            id: *const u8,
+            tree: *const u8,
+            tree_len: usize,
+            key: *mut u8,
+            key_len: usize,
+        ) -> u32;
+        pub fn kozbrax_lms_sign(
+            seed: *const u8,
+            id: *const u8,
+            number: u32,
+            randomizer: *const u8,
+            text: *const u8,
+            text_len: usize,
+            tree: *const u8,
+            tree_len: usize,
+            signature: *mut u8,
+            signature_len: usize,
+        ) -> u32;
+        pub fn kozbrax_lms_check(
+            key: *const u8,
+            key_len: usize,
+            text: *const u8,
+            text_len: usize,
+            signature: *const u8,
+            signature_len: usize,
+        ) -> u32;
     }
 }
 
@@ -11,4 +41,44 @@ mod raw {
 pub fn sha256(message: &[u8], out: &mut [u8]) -> u32 {
     // SAFETY: both slices are valid for their lengths, and `out` is borrowed alone. The function has no `requires`.
     unsafe { raw::kozbrax_sha256(message.as_ptr(), message.len(), out.as_mut_ptr(), out.len()) }
+}
+
+/// 0 and the key's tree in the first 65,504 bytes, or 21 and the buffer unchanged where it is shorter.
+pub fn lms_generate(seed: &[u8; 32], id: &[u8; 16], tree: &mut [u8]) -> u32 {
+    // SAFETY: as for `sha256`; the seed and the identifier have the lengths that the function reads.
+    unsafe { raw::kozbrax_lms_generate(seed.as_ptr(), id.as_ptr(), tree.as_mut_ptr(), tree.len()) }
+}
+
+/// 0 and the public key in the first 56 bytes, or 21 and the buffer unchanged where it or the tree is shorter.
+pub fn lms_public_key(id: &[u8; 16], tree: &[u8], key: &mut [u8]) -> u32 {
+    // SAFETY: as for `lms_generate`.
+    unsafe { raw::kozbrax_lms_public_key(id.as_ptr(), tree.as_ptr(), tree.len(), key.as_mut_ptr(), key.len()) }
+}
+
+/// 0 and the signature in the first 2,508 bytes; or the buffer unchanged, and 21 where it or the tree is shorter, else 17
+/// where the number is 1,024 or more.
+pub fn lms_sign(signer: &Signer, text: &[u8], tree: &[u8], signature: &mut [u8]) -> u32 {
+    // SAFETY: as for `lms_generate`.
+    unsafe {
+        raw::kozbrax_lms_sign(
+            signer.seed.as_ptr(),
+            signer.id.as_ptr(),
+            signer.number,
+            signer.randomizer.as_ptr(),
+            text.as_ptr(),
+            text.len(),
+            tree.as_ptr(),
+            tree.len(),
+            signature.as_mut_ptr(),
+            signature.len(),
+        )
+    }
+}
+
+/// The number that a valid signature was made with, or 4294967295.
+pub fn lms_check(key: &[u8], text: &[u8], signature: &[u8]) -> u32 {
+    // SAFETY: the slices are valid for their lengths, and nothing is written. The function has no `requires`.
+    unsafe {
+        raw::kozbrax_lms_check(key.as_ptr(), key.len(), text.as_ptr(), text.len(), signature.as_ptr(), signature.len())
+    }
 }

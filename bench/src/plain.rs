@@ -12,7 +12,7 @@ const K: [u32; 64] = [
     0xc67178f2,
 ];
 
-const INITIAL: [u32; 8] =
+pub const INITIAL: [u32; 8] =
     [0x6a09e667, 0xbb67ae85, 0x3c6ef372, 0xa54ff53a, 0x510e527f, 0x9b05688c, 0x1f83d9ab, 0x5be0cd19];
 
 /// One round, with k for K_t + W_t: the variables keep their places, and the caller names them in turned order.
@@ -45,7 +45,7 @@ fn schedule(block: &[u8; 64]) -> [u32; 64] {
     w
 }
 
-fn compress(state: &mut [u32; 8], block: &[u8; 64]) {
+pub fn compress(state: &mut [u32; 8], block: &[u8; 64]) {
     let w = schedule(block);
     let [mut a, mut b, mut c, mut d, mut e, mut f, mut g, mut h] = *state;
     for (k, w) in K.chunks_exact(8).zip(w.chunks_exact(8)) {

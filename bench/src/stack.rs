@@ -1,11 +1,19 @@
 //! The stack that a call uses: it runs on a painted stack of its own, and the bytes down to the deepest one that it
 //! changed are counted.
 use std::arch::asm;
+use std::hint::black_box;
 
+const RETURN_ADDRESS: usize = 8;
 const SIZE: usize = 1 << 20;
 
+/// The stack below a call, with the return address: what `call` uses with f beyond what it uses with one that does nothing.
+pub fn of_call<F>(f: F, nothing: F, mut call: impl FnMut(&F)) -> usize {
+    let mut with = |f: &F| used(|| call(black_box(f)));
+    with(&f) + RETURN_ADDRESS - with(&nothing)
+}
+
 /// Bytes of stack that f uses, the frame of f included. Painted twice: a byte set to the one paint shows under the other.
-pub fn used(mut f: impl FnMut()) -> usize {
+fn used(mut f: impl FnMut()) -> usize {
     painted(0xa5, &mut f).max(painted(0x5a, &mut f))
 }
 

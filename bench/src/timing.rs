@@ -1,10 +1,38 @@
 //! Two sides timed in turns, in rounds so short that a change of the machine's pace meets both.
-use std::time::Instant;
-
 const ROUND_SECONDS: f64 = 0.001;
+
+/// A clock of Linux, by its number there.
+#[derive(Clone, Copy)]
+pub enum Clock {
+    /// The time that passes: CLOCK_MONOTONIC.
+    Wall = 1,
+    /// The time that a processor spends on this thread: CLOCK_THREAD_CPUTIME_ID.
+    Processor = 3,
+}
+
+#[repr(C)]
+struct Time {
+    seconds: i64,
+    nanoseconds: i64,
+}
+
+extern "C" {
+    fn clock_gettime(clock: i32, time: *mut Time) -> i32;
+}
+
+impl Clock {
+    fn seconds(self) -> f64 {
+        let mut time = Time { seconds: 0, nanoseconds: 0 };
+        // SAFETY: the C library that std links has this function, and `Time` is its `timespec` on x86-64 Linux.
+        let failed = unsafe { clock_gettime(self as i32, &mut time) };
+        assert_eq!(failed, 0, "a clock that Linux has");
+        time.seconds as f64 + time.nanoseconds as f64 * 1e-9
+    }
+}
 
 /// What was measured of two sides so far.
 pub struct Race {
+    clock: Clock,
     calls: u32,
     best: (f64, f64),
     ratios: Vec<f64>,
@@ -12,45 +40,52 @@ pub struct Race {
 
 impl Race {
     /// No round yet; a round is to have as many calls of each side as take a millisecond of the side given.
-    pub fn new(mut side: impl FnMut()) -> Race {
+    pub fn new(clock: Clock, mut side: impl FnMut()) -> Race {
         let mut calls = 1;
-        while seconds_for_a_call(calls, &mut side) * f64::from(calls) < ROUND_SECONDS {
+        while seconds_for_a_call(clock, calls, &mut side) * f64::from(calls) < ROUND_SECONDS {
             calls *= 2;
         }
-        Race { calls, best: (f64::INFINITY, f64::INFINITY), ratios: Vec::new() }
+        Race { clock, calls, best: (f64::INFINITY, f64::INFINITY), ratios: Vec::new() }
     }
 
     /// One round: calls of the one side and then of the other, which take turns to go first.
     pub fn round(&mut self, mut first: impl FnMut(), mut second: impl FnMut()) {
         let (a, b);
         if self.ratios.len() & 1 == 0 {
-            a = seconds_for_a_call(self.calls, &mut first);
-            b = seconds_for_a_call(self.calls, &mut second);
+            a = seconds_for_a_call(self.clock, self.calls, &mut first);
+            b = seconds_for_a_call(self.clock, self.calls, &mut second);
         } else {
-            b = seconds_for_a_call(self.calls, &mut second);
-            a = seconds_for_a_call(self.calls, &mut first);
+            b = seconds_for_a_call(self.clock, self.calls, &mut second);
+            a = seconds_for_a_call(self.clock, self.calls, &mut first);
         }
         self.best = (self.best.0.min(a), self.best.1.min(b));
         self.ratios.push(b / a);
     }
 
-    /// Seconds for a call of the first side and of the second, each on its best round.
-    pub fn best(&self) -> (f64, f64) {
-        self.best
-    }
-
     /// The second side's time over the first's in the same round: the median of the rounds.
-    pub fn median_ratio(&self) -> f64 {
+    fn median_ratio(&self) -> f64 {
         let mut ratios = self.ratios.clone();
         ratios.sort_by(f64::total_cmp);
         ratios[ratios.len() / 2]
     }
+
+    /// A line with the compressions a second of the library, which was the first side, and of plain Rust.
+    pub fn print(&self, name: &str, compressions: u64) {
+        let (library, plain) = self.best;
+        println!(
+            "  {name:>14}  library {:>9.0}  plain {:>9.0}  ratio {:.3}  median of the rounds' ratios {:.3}",
+            compressions as f64 / library,
+            compressions as f64 / plain,
+            plain / library,
+            self.median_ratio(),
+        );
+    }
 }
 
-fn seconds_for_a_call(calls: u32, f: &mut impl FnMut()) -> f64 {
-    let start = Instant::now();
+fn seconds_for_a_call(clock: Clock, calls: u32, f: &mut impl FnMut()) -> f64 {
+    let start = clock.seconds();
     for _ in 0..calls {
         f();
     }
-    start.elapsed().as_secs_f64() / f64::from(calls)
+    (clock.seconds() - start) / f64::from(calls)
 }
