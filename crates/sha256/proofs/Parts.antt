@@ -185,9 +185,9 @@ module _ (m state marked : List ℕ) (es : state ≡ hashValue (length m / 64) m
       hashed (suc (length (m ++ one) / 64)) (second ∙ ap (hashValue (suc (length (m ++ one) / 64))) joined)
       (omega (arith, ap length joined))
 
--- one compression, from what it is handed
-pub compressed-from : (fin h h′ w last : List ℕ) → fin ≡ compress h w → w ≡ words 16 last → h ≡ h′ → fin ≡ compress h′ (words 16 last)
-compressed-from fin h h′ w last e ew eh = e ∙ rw (ew, eh)
+-- a block and a buffer, from what they are handed
+pub compressed-from : (fin h h′ w : List ℕ) → fin ≡ compress h w → h ≡ h′ → fin ≡ compress h′ w
+compressed-from fin h h′ w e eh = e ∙ rw eh
 
 pub written-from : (last b b′ bits : List ℕ) (at : ℕ) → last ≡ written b at bits → b ≡ b′ → last ≡ written b′ at bits
 written-from last b b′ bits at e eb = e ∙ rw eb

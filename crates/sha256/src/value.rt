@@ -16,7 +16,7 @@ pub fn whole_blocks(h: [u32; 8], s: &[u8]) -> [u32; 8]
     let mut state = h;
     let mut i = 0;
     while 64 <= s.len() - i {
-        let next = block::compress(state, block::words_at(s, i));
+        let next = block::take_in(state, s, i);
         state = next;
         i += 64;
     }
@@ -35,10 +35,10 @@ pub fn close(state: [u32; 8], rest: &[u8], total: u64) -> [u8; 32]
     block[at] = 128;
     let mut h = state;
     if 56 <= at {
-        let next = block::compress(h, block::words_at(&block, 0));
+        let next = block::take_in(h, &block, 0);
         h = next;
         block = [0u8; 64];
     }
     bytes::put(&mut block, 56, &bits);
-    stream::digest(block::compress(h, block::words_at(&block, 0)))
+    stream::digest(block::take_in(h, &block, 0))
 }
