@@ -12,3 +12,4 @@ pub mod ReadLaws
 pub mod Grows
 pub mod Asked
 pub mod Walks
+pub mod Paths
