@@ -13,3 +13,4 @@ pub mod Grows
 pub mod Asked
 pub mod Walks
 pub mod Paths
+pub mod Peaks
