@@ -14,3 +14,5 @@ pub mod Asked
 pub mod Walks
 pub mod Paths
 pub mod Peaks
+pub mod ReadWalk
+pub mod Counts
