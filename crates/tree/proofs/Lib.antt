@@ -16,3 +16,4 @@ pub mod Paths
 pub mod Peaks
 pub mod ReadWalk
 pub mod Counts
+pub mod Honest
