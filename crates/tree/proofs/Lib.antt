@@ -17,3 +17,4 @@ pub mod Peaks
 pub mod ReadWalk
 pub mod Counts
 pub mod Honest
+pub mod HonestRead
