@@ -4,4 +4,7 @@ pub mod Label
 pub mod Expr
 pub mod Tree
 pub mod Cover
+pub mod Read
+pub mod Walk
 pub mod Table
+pub mod Examples
