@@ -1,0 +1,2 @@
+-- Laws of the exported functions' definitions.
+mod HashCall
