@@ -13,3 +13,9 @@ pub mod Grows
 pub mod Messages
 pub mod Asked
 pub mod Walks
+pub mod Paths
+pub mod Peaks
+pub mod ReadWalk
+pub mod Counts
+pub mod Honest
+pub mod HonestRead

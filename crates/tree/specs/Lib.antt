@@ -4,5 +4,8 @@ pub mod Label
 pub mod Expr
 pub mod Tree
 pub mod Cover
+pub mod Read
+pub mod Walk
 pub mod Table
 pub mod Message
+pub mod Examples
