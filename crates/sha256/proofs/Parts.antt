@@ -1,8 +1,11 @@
 -- A message that comes in parts: what the streaming state holds after each, and the hash at the end.
 use mathlib.Core.Path.{_≡_, refl, _∙_, sym, ap}
 use mathlib.Core.List.{List, [], _∷_, _++_, append-assoc, append-nil}
-use Prim.Native.Nat.{ℕ, suc, _+_, _-_, _*_, _/_, _%_, _^_, _≤_, _<_}
+use Prim.Native.Nat.{ℕ, zero, suc, _+_, _-_, _*_, _/_, _%_, _^_, _≤_, _<_}
 use native.Mathlib.Omega.{arith}
+use mathlib.Core.Bool.{cond}
+use lib.Dec.{ltb}
+use borrow.Author.Tests.{lt-ltb, le-ltb}
 use lib.ListN.{length, take, drop, set, replicate, length-append, length-replicate, replicate-append-replicate, take-append-drop}
 use lib.Seq.{length-take-le, take-at}
 use Rattle.sha256.specs.Bytes.{be, written}
@@ -12,6 +15,7 @@ use Rattle.sha256.specs.Hash.{zeros, padding, pad, words, hashValue, byt
 use Rattle.sha256.specs.Stream.{rest, streamed}
 use Rattle.sha256.specs.declared.stream.Sha.{Sha}
 use Rattle.sha256.proofs.Laws.{be-length, be-mod}
+use Rattle.sha256.proofs.Cases.{cases-lt}
 use Rattle.sha256.proofs.Numbers.{rest-is}
 use Rattle.sha256.proofs.Blocks.{hashValue-append, next-block, rest-length, rest-more, rest-after, rest-none, written-over-zeros, set-first-zero}
 
@@ -185,13 +189,6 @@ module _ (m state marked : List ℕ) (es : state ≡ hashValue (length m / 64) m
       hashed (suc (length (m ++ one) / 64)) (second ∙ ap (hashValue (suc (length (m ++ one) / 64))) joined)
       (omega (arith, ap length joined))
 
--- a block and a buffer, from what they are handed
-pub compressed-from : (fin h h′ w : List ℕ) → fin ≡ compress h w → h ≡ h′ → fin ≡ compress h′ w
-compressed-from fin h h′ w e eh = e ∙ rw eh
-
-pub written-from : (last b b′ bits : List ℕ) (at : ℕ) → last ≡ written b at bits → b ≡ b′ → last ≡ written b′ at bits
-written-from last b b′ bits at e eb = e ∙ rw eb
-
 -- a whole message: its blocks, and what is left after them
 pub rest-of-slice : (s t : List ℕ) → t ≡ take (length s - length s / 64 * 64) (drop (length s / 64 * 64) s) → t ≡ rest s
 rest-of-slice s t e = e ∙ rest-is (length s / 64 * 64) s ∙ sym (rest-after [] s refl)
@@ -200,3 +197,49 @@ pub value-of-slice : (s h : List ℕ) → h ≡ hashValue ((0 + length s) / 64) 
 value-of-slice s h e =
     let n : 0 + length s ≡ length s = omega arith in
     rw n at e
+
+-- What the loop through the last blocks of m still has to do: nothing; the block with the length; one block, and then that one.
+abbrev pub Pending : List ℕ → List ℕ → ℕ → List ℕ → List ℕ → Type 0
+Pending m bits zero h block = bytes h ≡ sha256 m
+Pending m bits (suc zero) h block = (fin : List ℕ) → fin ≡ compress h (words 16 (written block 56 bits)) → bytes fin ≡ sha256 m
+Pending m bits (suc (suc n)) h block =
+    (next : List ℕ) → next ≡ compress h (words 16 block) → Pending m bits (suc n) next (replicate 64 0)
+
+module _ (m state marked : List ℕ) (es : state ≡ hashValue (length m / 64) m) (em : marked ≡ rest m ++ (128 ∷ replicate (63 - length m % 64) 0))
+    (bits : List ℕ) (digits : bits ≡ be 8 (8 * length m)) where
+  pub pending-first : (at left : ℕ) → at ≡ length m % 64 → left ≡ cond (ltb at 56) 1 2 → Pending m bits left state marked
+  pending-first at left ea el =
+      cases-lt at 56
+      (λ h.
+      let one : left ≡ 1 = el ∙ rw (lt-ltb at 56 h) in
+      rw one (λ fin ef. finished-here m state marked es em bits digits fin (bytes fin) refl (written marked 56 bits) (omega arith) refl ef))
+      (λ h.
+      let two : left ≡ 2 = el ∙ rw (le-ltb at 56 h) in
+      rw two (λ next en fin ef. finished-next m state marked es em bits digits fin (bytes fin) refl next (written (replicate 64 0) 56 bits) (omega arith) en refl ef))
+
+-- one turn: the block with the length, or the one before it
+pub pending-last : (m bits h block last next : List ℕ) (left : ℕ) → Pending m bits left h block → left ≡ 1 → last ≡ written block 56 bits
+    → next ≡ compress h (words 16 last) → Pending m bits (left - 1) next (replicate 64 0)
+pending-last m bits h block last next left p e el en =
+    let q : Pending m bits 1 h block = rw e at p in
+    rw e (q next (en ∙ rw el))
+
+pub pending-more : (m bits h block next : List ℕ) (left : ℕ) → Pending m bits left h block → left ≡ 2 → next ≡ compress h (words 16 block)
+    → Pending m bits (left - 1) next (replicate 64 0)
+pending-more m bits h block next left p e en =
+    let q : Pending m bits 2 h block = rw e at p in
+    rw e (q next en)
+
+pub pending-none : (m bits h block : List ℕ) (left : ℕ) → Pending m bits left h block → left ≡ 0 → bytes h ≡ sha256 m
+pending-none m bits h block left p e = rw e at p
+
+pub at-most-two : (at left : ℕ) → left ≡ cond (ltb at 56) 1 2 → left ≤ 2
+at-most-two at left e =
+    cases-lt at 56
+    (λ h. let one : left ≡ 1 = e ∙ rw (lt-ltb at 56 h) in omega arith)
+    (λ h. let two : left ≡ 2 = e ∙ rw (le-ltb at 56 h) in omega arith)
+
+pub two-left : (n : ℕ) → n ≤ 2 → 0 < n → (n ≡ 1 → ⊥) → n ≡ 2
+two-left zero h g k = absurd (omega arith)
+two-left (suc zero) h g k = absurd (k refl)
+two-left (suc (suc n)) h g k = omega arith

@@ -227,7 +227,7 @@ fn load(s: &[u8], i: usize) -> u32
 }
 
 // The sixteen words of the block at place i of s.
-fn words_at(s: &[u8], i: usize) -> [u32; 16]
+pub fn words_at(s: &[u8], i: usize) -> [u32; 16]
     requires { ⌜ i + 64 ≤ length (now s) ⌝ }
     ensures { λ r. ⌜ r ≡ words 16 (drop i (now (s .entry))) ⌝ }
 {
@@ -238,12 +238,4 @@ fn words_at(s: &[u8], i: usize) -> [u32; 16]
         t += 1;
     }
     w
-}
-
-// The hash value h after the block at place i of s.
-pub fn take_in(h: [u32; 8], s: &[u8], i: usize) -> [u32; 8]
-    requires { ⌜ i + 64 ≤ length (now s) ⌝ }
-    ensures { λ r. ⌜ r ≡ compressOf h (words 16 (drop i (now (s .entry)))) ⌝ }
-{
-    compress(h, words_at(s, i))
 }

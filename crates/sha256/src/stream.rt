@@ -44,7 +44,7 @@ impl Sha {
         }
         let k = 64 - at;
         bytes::put(&mut block, at, &more[..k]);
-        let next = block::take_in(state, &block, 0);
+        let next = block::compress(state, block::words_at(&block, 0));
         absorb(next, &more[k..], count)
     }
 

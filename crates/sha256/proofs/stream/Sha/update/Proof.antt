@@ -1,8 +1,9 @@
-use borrow.Author.Needs.{needs}
 use Rattle.sha256.proofs.Parts.{took-part, took-more}
+use Rattle.sha256.specs.Block.{compress}
 use lib.Seq.{length-take-le}
 use native.Mathlib.Omega.{arith}
-use mathlib.Core.Path.{refl, sym}
+use mathlib.Core.Path.{refl, _∙_, sym, ap}
+use borrow.Author.Needs.{needs}
 use Rattle.sha256.proofs.stream.Sha.update.Statement.{statement}
 use Rattle.sha256.proofs.stream.Sha.update.Tie as tie
 
@@ -33,11 +34,14 @@ slice-aggregate-put-3 c = sym (length-take-le _ _ (omega arith))
 put-requires-2 : tie.Need-put-requires-2
 put-requires-2 c κs = search needs
 
-slice-aggregate-take-in : tie.Need-slice-aggregate-take-in
-slice-aggregate-take-in c = search needs
+slice-aggregate-words-at : tie.Need-slice-aggregate-words-at
+slice-aggregate-words-at c = search needs
 
-take-in-requires : tie.Need-take-in-requires
-take-in-requires c κs = search needs
+words-at-requires : tie.Need-words-at-requires
+words-at-requires c κs = search needs
+
+compress-requires : tie.Need-compress-requires
+compress-requires c κs = search needs
 
 sub-absorb : tie.Need-sub-absorb
 sub-absorb c = search needs
@@ -52,7 +56,7 @@ absorb-requires : tie.Need-absorb-requires
 absorb-requires c κs = search needs
 
 returns-2 : tie.Need-returns-2
-returns-2 c = λ m e. took-more (c .before .before .before .before .before .before .before .before .before .before .before .before .before .args .self) m e (c .before .before .before .before .before .before .before .before .before .before .before .before .before .args .more .now) _ _ _ _ _ (omega arith) (c .before .before .before .before .before .put2 .ensures) (c .before .before .take-in .ensures) refl (c .before .before .before .before .before .before .before .before .before .wrapping-add-u64 .ensures) (c .absorb .ensures)
+returns-2 c = λ m e. took-more (c .before .before .before .before .before .before .before .before .before .before .before .before .before .before .args .self) m e (c .before .before .before .before .before .before .before .before .before .before .before .before .before .before .args .more .now) _ _ _ _ _ (omega arith) (c .before .before .before .before .before .before .put2 .ensures) (c .before .before .compress .ensures ∙ ap (compress (c .before .before .before .before .before .before .before .before .before .before .before .before .before .before .args .self .state)) (c .before .before .before .words-at .ensures)) refl (c .before .before .before .before .before .before .before .before .before .before .wrapping-add-u64 .ensures) (c .absorb .ensures)
 
 pub update-spec : {M : Type 1} → statement M
 update-spec =
@@ -67,8 +71,9 @@ update-spec =
     slice-aggregate-put-2
     slice-aggregate-put-3
     put-requires-2
-    slice-aggregate-take-in
-    take-in-requires
+    slice-aggregate-words-at
+    words-at-requires
+    compress-requires
     sub-absorb
     part-absorb-start
     part-absorb-end
