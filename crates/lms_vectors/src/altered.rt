@@ -1,5 +1,4 @@
 // A record with one field changed: each is refused.
-use crate::hex;
 use crate::record;
 use crate::report;
 use sha256::bytes;
@@ -12,9 +11,9 @@ pub fn run(path: &[u8]) {
     let mut key = [0u8; 57];
     let mut signature = [0u8; 2509];
     let mut message = [0u8; 256];
-    hex::decode(record::line(all), &mut key);
-    hex::decode(record::line(record::after_line(all)), &mut signature);
-    let m = hex::decode(
+    figures::decode(record::line(all), &mut key);
+    figures::decode(record::line(record::after_line(all)), &mut signature);
+    let m = figures::decode(
         record::line(record::after_line(record::after_line(all))),
         &mut message,
     );

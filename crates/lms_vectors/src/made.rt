@@ -1,5 +1,4 @@
 // Keys and signatures made from a seed, I and a randomizer.
-use crate::hex;
 use crate::record;
 use crate::report;
 use sha256::bytes;
@@ -12,9 +11,9 @@ pub fn run(name: &[u8], key_path: &[u8], path: &[u8], number: u32) {
     let mut seed = [0u8; 32];
     let mut id = [0u8; 16];
     let mut randomizer = [0u8; 32];
-    hex::decode(record::line(all), &mut seed);
-    hex::decode(record::line(record::after_line(all)), &mut id);
-    hex::decode(
+    figures::decode(record::line(all), &mut seed);
+    figures::decode(record::line(record::after_line(all)), &mut id);
+    figures::decode(
         record::line(record::after_line(record::after_line(all))),
         &mut randomizer,
     );
@@ -119,7 +118,7 @@ fn message_of(path: &[u8], message: &mut [u8]) -> usize {
     let mut text = [0u8; 8192];
     let n = record::read(path, &mut text);
     let all = bytes::front(&text, n);
-    hex::decode(
+    figures::decode(
         record::line(record::after_line(record::after_line(all))),
         message,
     )

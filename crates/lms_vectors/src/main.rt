@@ -1,7 +1,6 @@
 // Runs RFC 8554's test cases and other published records of LMS_SHA256_M32_H10 with LMOTS_SHA256_N32_W4, and prints what is computed here.
 // The file `stdout` has the published public keys and signatures, and what is to be refused.
 mod altered;
-mod hex;
 mod made;
 mod record;
 mod report;

@@ -1,7 +1,6 @@
 // A record is a file of lines of hexadecimal figures: the public key, the signature, the text. A key's file has the seed, I and the randomizer.
 ghost use Prim.Native.Nat.{_≤_};
 ghost use lib.ListN.{length};
-use crate::hex;
 use crate::report;
 use sha256::bytes;
 
@@ -47,9 +46,9 @@ pub fn check(name: &[u8], path: &[u8]) {
     let mut key = [0u8; 56];
     let mut signature = [0u8; 2508];
     let mut message = [0u8; 256];
-    let k = hex::decode(line(all), &mut key);
-    let s = hex::decode(line(after_line(all)), &mut signature);
-    let m = hex::decode(line(after_line(after_line(all))), &mut message);
+    let k = figures::decode(line(all), &mut key);
+    let s = figures::decode(line(after_line(all)), &mut signature);
+    let m = figures::decode(line(after_line(after_line(all))), &mut message);
     report::answer(
         name,
         lms::check(

@@ -1,7 +1,6 @@
 // A file of messages: a line for each, with its name, a space and the message in hexadecimal figures.
 ghost use Prim.Native.Nat.{_≤_};
 ghost use lib.ListN.{length};
-use crate::hex;
 use crate::parts;
 use crate::report;
 use sha256::bytes;
@@ -58,7 +57,7 @@ fn line(text: &[u8]) {
     let name = bytes::front(text, n);
     let figures = bytes::from(bytes::from(text, n), 1);
     let mut space = [0u8; 6400];
-    let length = hex::decode(figures, &mut space);
+    let length = figures::decode(figures, &mut space);
     let message = bytes::front(&space, length);
     report::text(name);
     report::digest(sha256::hash(message));

@@ -1,7 +1,6 @@
 // Runs NIST's vectors and prints a line for each: its name and the digest computed here. The file `stdout` has NIST's own digests.
 mod file;
 mod fill;
-mod hex;
 mod monte;
 mod parts;
 mod report;

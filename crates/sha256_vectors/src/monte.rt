@@ -1,10 +1,9 @@
 // The Monte Carlo test of NIST's CAVP: 100 checkpoints of 1,000 hashes each, every checkpoint the seed of the next.
-use crate::hex;
 use crate::report;
 
 pub fn run() {
     let mut seed = [0u8; 32];
-    hex::decode(
+    figures::decode(
         b"6d1e72ad03ddeb5de891e572e2396f8da015d899ef0e79503152d6010a3fe691",
         &mut seed,
     );

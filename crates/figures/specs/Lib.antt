@@ -1,0 +1,2 @@
+-- Hexadecimal figures as bytes.
+pub mod Figures
