@@ -3,3 +3,4 @@ pub mod Records
 pub mod Judged
 pub mod Codes
 pub mod Effects
+pub mod Served
