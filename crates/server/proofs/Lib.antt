@@ -4,3 +4,4 @@ pub mod Judged
 pub mod Codes
 pub mod Effects
 pub mod Served
+pub mod Theorems
