@@ -1,7 +1,7 @@
 -- Case splits on a test, each case with the fact that it brings.
 use mathlib.Core.Path.{_≡_, refl, sym}
 use mathlib.Core.Bool.{Bool, true, false, _&&_}
-use Prim.Native.Nat.{ℕ, _≤_, _<_}
+use Prim.Native.Nat.{ℕ, zero, suc, _≤_, _<_}
 use native.Mathlib.Omega.{arith}
 use lib.Dec.{leb, eqb}
 use Rattle.sha256.proofs.Cases.{by-bool}
@@ -18,6 +18,11 @@ cases-le {C = C} a b f g = by-leb (λ t. C) a b f g
 
 pub cases-eq {ℓ} : {C : Type ℓ} (a b : ℕ) → (a ≡ b → C) → ((a ≡ b → ⊥) → C) → C
 cases-eq {C = C} a b f g = by-eqb (λ t. C) a b f g
+
+-- a number other than 0 is above it
+pub positive : (n : ℕ) → (n ≡ 0 → ⊥) → 0 < n
+positive zero n = absurd (n refl)
+positive (suc n) k = omega arith
 
 -- a test has one value
 pub not-both {ℓ} : {C : Type ℓ} (b : Bool) → b ≡ true → b ≡ false → C
