@@ -1,5 +1,5 @@
 -- RFC 8554, section 5.4.2: the check of a signature, Algorithms 6 and 6a.
-use mathlib.Core.Bool.{Bool, cond, _&&_}
+use mathlib.Core.Bool.{Bool, true, false, cond, _&&_}
 use mathlib.Core.List.{List}
 use Prim.Native.Nat.{ℕ, zero, suc, _+_, _*_, _/_, _%_, _^_}
 use lib.Dec.{eqb, ltb}
@@ -52,3 +52,8 @@ checkOf o l key message s =
     cond (keyFits o l key && (signatureFits o l s && eqs (rootOf o l key message s) (drop 24 key)))
     (Checked.Number (numberAt 4 s 0))
     Checked.No
+
+-- Whether an answer is VALID.
+abbrev pub isValid : Checked → Bool
+isValid Checked.No = false
+isValid (Checked.Number q) = true

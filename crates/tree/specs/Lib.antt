@@ -8,4 +8,6 @@ pub mod Read
 pub mod Walk
 pub mod Table
 pub mod Message
+pub mod Setup
+pub mod Bytes
 pub mod Examples

@@ -1,0 +1,2 @@
+-- the proof of the claim
+pub mod Histories

@@ -1,0 +1,4 @@
+-- Document 01's whole runs: the steps of users and of one server, lists of them, and the claim.
+pub mod World
+pub mod Runs
+pub mod Claim
