@@ -11,6 +11,7 @@ pub mod Covers
 pub mod ReadLaws
 pub mod Grows
 pub mod Messages
+pub mod Setup
 pub mod Asked
 pub mod Walks
 pub mod Paths
