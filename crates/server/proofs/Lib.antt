@@ -1,5 +1,7 @@
 -- Laws that several proofs cite.
 pub mod Records
+pub mod Appended
+pub mod Asked
 pub mod Judged
 pub mod Codes
 pub mod Effects
