@@ -7,3 +7,4 @@ pub mod Codes
 pub mod Effects
 pub mod Served
 pub mod Theorems
+pub mod After
