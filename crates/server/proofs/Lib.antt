@@ -8,3 +8,4 @@ pub mod Effects
 pub mod Served
 pub mod Theorems
 pub mod After
+pub mod PullTheorems
