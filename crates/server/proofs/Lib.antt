@@ -9,3 +9,4 @@ pub mod Served
 pub mod Theorems
 pub mod After
 pub mod PullTheorems
+pub mod OtherPulls
