@@ -10,3 +10,4 @@ pub mod Theorems
 pub mod After
 pub mod PullTheorems
 pub mod OtherPulls
+pub mod Repeats
