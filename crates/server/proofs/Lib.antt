@@ -11,3 +11,4 @@ pub mod After
 pub mod PullTheorems
 pub mod OtherPulls
 pub mod Repeats
+pub mod Sizes
