@@ -6,6 +6,7 @@ pub mod Judged
 pub mod Codes
 pub mod Effects
 pub mod Served
+-- What holds of every call, and of one call after another.
 pub mod Theorems
 pub mod After
 pub mod PullTheorems
