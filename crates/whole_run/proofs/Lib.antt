@@ -1,2 +1,4 @@
 -- the proof of the claim
 pub mod Histories
+pub mod Passed
+pub mod Updating
