@@ -2,3 +2,5 @@
 pub mod Histories
 pub mod Passed
 pub mod Updating
+pub mod States
+pub mod UpdateSteps
