@@ -4,3 +4,5 @@ pub mod Passed
 pub mod Updating
 pub mod States
 pub mod UpdateSteps
+pub mod Writing
+pub mod WriteSteps
