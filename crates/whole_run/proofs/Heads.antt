@@ -129,6 +129,11 @@ reserve-codes true true false d = omega arith
 reserve-codes true false c d = omega arith
 reserve-codes false b c d = omega arith
 
+-- A head at p or past it, with the digest δ if it is at p.
+record Past (p : ℕ) (δ : List ℕ) (h : Head) : Type 0 where
+  pub up : p ≤ h .position
+  pub stay : h .position ≡ p → h .digest ≡ δ
+
 -- one call of H
 module _ (s : Settings) (h : Head) (store : List ℕ) (used : ℕ) (q buffer : List ℕ) where
   abbrev left : Left
@@ -203,3 +208,104 @@ module _ (s : Settings) (h : Head) (store : List ℕ) (used : ℕ) (q buffer : L
       cases-eq (firstCode (setupChecks s h store used buffer)) 0
       (λ z. (n .0, answer-accepts z (rw (n .0) at k) (rw (n .1) at e)))
       (λ i. absurd (n .2 (rw (served-refused s h store used q buffer _ refl i))))
+
+  -- a head at p or past it stays so, and at p it keeps its digest
+  past-stays : (p : ℕ) (δ : List ℕ) → length (h .digest) ≡ 32 → Past p δ h → Past p δ (left .out .head)
+  past-stays p δ w k =
+      let a = k .up in
+      let b = position-never-falls s h store used q buffer in
+      record {
+        up = omega arith;
+        stay = λ e. one-digest-a-position s h store used q buffer w (omega arith) .1 ∙ k .stay (omega arith);
+      }
+
+-- H accepted the Reserve q
+abbrev Accepted : World → List ℕ → Type 0
+Accepted w q = (x : List ℕ) × List·Memᴰ (answered q x) (w .log) × (requestKind q ≡ 5) × (answerCode x ≡ 0)
+
+-- H's head is past every Reserve that it accepted, and for one position they have one digest
+record Logged (w : World) : Type 0 where
+  pub whole : length (w .head .digest) ≡ 32
+  pub past : (q : List ℕ) → Accepted w q → Past (requestPosition q) (requestBody q) (w .head)
+  pub same : (q r : List ℕ) → Accepted w q → Accepted w r → requestPosition q ≡ requestPosition r → requestBody q ≡ requestBody r
+
+logged-user : (w : World) (a : ℕ) (i : Input) (s : UserSettings) → Logged w → Logged (withUser w a (userStep s (w .users a) i))
+unfolding withUser
+logged-user w a i s k =
+    record { whole = k .whole; past = λ q y. k .past q (old q y); same = λ q r y z. k .same q r (old q y) (old r z) }
+  where
+    old : (q : List ℕ) → Accepted (withUser w a (userStep s (w .users a) i)) q → Accepted w q
+    old q y = (y .0, elim (List·Memᴰ·append-cases (userStep s (w .users a) i .events) (y .1)) [
+        inl m ↦ absurd (user-quiet s (w .users a) i q (y .0) m) |
+        inr m ↦ m ], y .2, y .3)
+
+logged-server : (w : World) (s : Settings) (q buffer : List ℕ) → Logged w → Logged (withServer w q (served s (w .head) (w .store) (w .used) q buffer))
+unfolding withServer
+logged-server w s q buffer k =
+    record {
+      whole = digest-stays-whole s (w .head) (w .store) (w .used) q buffer (k .whole);
+      past = past;
+      same = λ r t y z e. elim (split r y) [
+        inl m ↦ sym (m .1) ∙ past t z .stay (m .0 ∙ e) |
+        inr m ↦ elim (split t z) [ inl n ↦ sym (past r y .stay (n .0 ∙ sym e)) ∙ n .1 | inr n ↦ k .same r t m n e ] ];
+    }
+  where
+    left-by : Left
+    left-by = served s (w .head) (w .store) (w .used) q buffer
+
+    next : World
+    next = withServer w q left-by
+
+    -- an accepted Reserve is the head now, or was accepted before
+    split : (r : List ℕ) → Accepted next r → ((next .head .position ≡ requestPosition r) × (next .head .digest ≡ requestBody r)) ⊎ Accepted w r
+    split r y = elim (List·Memᴰ·append-cases (serverEvents q left-by) (y .1)) [
+        inl m ↦ (let n = noted-accepts s (w .head) (w .store) (w .used) q buffer r (y .0) m (y .2) (y .3) in
+            inl (rw (n .0) (reserved-head s (w .head) (w .store) (w .used) q buffer (n .1) (rw (n .0) at (y .2))))) |
+        inr m ↦ inr (y .0, m, y .2, y .3) ]
+
+    past : (r : List ℕ) → Accepted next r → Past (requestPosition r) (requestBody r) (next .head)
+    past r y = elim (split r y) [
+        inl m ↦ record { up = omega (arith, m .0); stay = λ _. m .1 } |
+        inr m ↦ past-stays s (w .head) (w .store) (w .used) q buffer (requestPosition r) (requestBody r) (k .whole) (k .past r m) ]
+
+logged : (g : Group) (store : List ℕ) (xs : List Step) → Logged (run g store xs)
+unfolding run setup step
+logged g store [] =
+    record {
+      whole = length-replicate {A = ℕ} 32 0;
+      past = λ q y. absurd (List·Memᴰ·not-nil (y .1));
+      same = λ q r y z e. absurd (List·Memᴰ·not-nil (y .1));
+    }
+logged g store (user a i ∷ xs) = logged-user (run g store xs) a i (settingsOf g a) (logged g store xs)
+logged g store (server q buffer ∷ xs) =
+    logged-server (run g store xs) (settings (g .servers) (g .follows) (g .log) (g .users)) q buffer (logged g store xs)
+
+-- what H reads in a Reserve: each number modulo the size of its field
+module _ (log : List ℕ) (named : length log ≡ 16) (a p l : ℕ) (δ : List ℕ) where
+  abbrev reserve : List ℕ
+  reserve = request 5 log a p l δ
+
+  reserve-wraps : reserve ≡ request 5 log (a % 65536) (p % 4294967296) (l % 256) δ
+  unfolding request requestHeader
+  reserve-wraps = rw (be-mod 2 a, be-mod 4 p, be-mod 1 l)
+
+  reserve-read : (requestKind reserve ≡ 5) × (requestPosition reserve ≡ p % 4294967296) × (requestBody reserve ≡ δ)
+  reserve-read =
+      let ha : a % 65536 < 65536 = mod-lt a (omega arith) in
+      let hp : p % 4294967296 < 4294967296 = mod-lt p (omega arith) in
+      let hl : l % 256 < 256 = mod-lt l (omega arith) in
+      rw reserve-wraps (
+        request-kind 5 log _ _ _ δ (omega arith) named ha hp hl,
+        request-position 5 log _ _ _ δ (omega arith) named ha hp hl,
+        request-body 5 log _ _ _ δ (omega arith) named ha hp hl,
+      )
+
+-- Two Reserves of one position that H answered with code 0 have the same digest.
+pub one-digest-at-H : (g : Group) → length (g .log) ≡ 16 → (store : List ℕ) (xs : List Step) (a b p l m : ℕ) (δ ε x y : List ℕ)
+    → List·Memᴰ (answered (request 5 (g .log) a p l δ) x) (run g store xs .log) → answerCode x ≡ 0
+    → List·Memᴰ (answered (request 5 (g .log) b p m ε) y) (run g store xs .log) → answerCode y ≡ 0
+    → δ ≡ ε
+one-digest-at-H g named store xs a b p l m δ ε x y i c j d =
+    let q = reserve-read (g .log) named a p l δ in
+    let r = reserve-read (g .log) named b p m ε in
+    sym (q .2) ∙ logged g store xs .same _ _ (x, i, q .0, c) (y, j, r .0, d) (q .1 ∙ sym (r .1)) ∙ r .2
