@@ -1,125 +1,43 @@
 -- H's side of the claim: for one position H accepts the Reserves of one digest, in every list of steps.
-use mathlib.Core.Path.{_≡_, refl, ap, sym, _∙_, subst}
-use mathlib.Core.Bool.{Bool, true, false, cond, not, _&&_}
+use mathlib.Core.Path.{_≡_, refl, ap, sym, _∙_}
+use mathlib.Core.Bool.{Bool, true, false, cond}
 use mathlib.Core.List.{List, [], _∷_, _++_, List·Memᴰ, List·Memᴰ·not-nil, List·Memᴰ·cases-cons, List·Memᴰ·append-cases}
 use mathlib.Core.Logic.{_⊎_, inl, inr}
-use Prim.Native.Nat.{ℕ, _+_, _-_, _%_, _≤_, _<_}
+use Prim.Native.Nat.{ℕ, _%_, _≤_, _<_}
 use native.Mathlib.Nat.{zero-add, mod-lt}
 use native.Mathlib.Omega.{arith}
-use lib.Dec.{eqb, leb}
 use lib.ListN.{length, take, length-replicate}
 use lib.Seq.{take-all}
 use borrow.Author.Tests.{eq-eqb, ne-eqb, lt-leb, leb-true, eqb-true}
-use Rattle.sha256.specs.Bytes.{eqs, written}
-use Rattle.sha256.proofs.Cases.{by-bool}
+use Rattle.sha256.specs.Bytes.{eqs}
 use Rattle.sha256.proofs.Laws.{be-mod}
 use Rattle.tree.specs.Cover.{piece}
-use Rattle.tree.specs.Message.{request, requestHeader, requestKind, requestLog, requestPosition, requestLevel, requestBody, answer, answerHeader, answerCode}
+use Rattle.tree.specs.Message.{request, requestHeader, requestKind, requestLog, requestPosition, requestBody, answer, answerHeader, answerCode}
 use Rattle.tree.proofs.Cases.{by-eqb, cases-eq}
 use Rattle.tree.proofs.Messages.{request-kind, request-position, request-body, answer-code}
 use Rattle.tree.proofs.Pieces.{piece-whole}
 use Rattle.server.specs.declared.Head.{Head}
 use Rattle.server.specs.Shape.{bodyFits, requestFits}
-use Rattle.server.specs.Checks.{Settings, settings, userCount, ownsNode, reservable, firstCode, setupChecks, requestChecks, checksOver, kindChecks, recordKept, pullSource}
-use Rattle.server.specs.Serve.{headAfter, bodyGiven, headerGiven, answerGiven, Left, refusedSetup, served}
+use Rattle.server.specs.Checks.{Settings, settings, userCount, ownsNode, reservable, firstCode, setupChecks, requestChecks, checksOver, kindChecks}
+use Rattle.server.specs.Serve.{headAfter, headerGiven, answerGiven, Left, refusedSetup, served}
 use Rattle.server.proofs.Codes.{passed}
 use Rattle.server.proofs.Appended.{take-written}
 use Rattle.server.proofs.Served.{code, given, served-passed, served-refused}
 use Rattle.server.proofs.Theorems.{refusal-keeps-all, head-changes-only-by-reserve, position-never-falls, one-digest-a-position}
 use Rattle.server.proofs.After.{accepted-setup, accepted-code, accepted-fits}
 use Rattle.server.proofs.Sizes.{answer-at-most-2552}
-use Rattle.user.specs.declared.call.Kept.{Kept}
-use Rattle.user.specs.declared.call.Step.{Step as Asking}
-use Rattle.user.specs.declared.call.Update.{Update}
-use Rattle.user.specs.declared.call.Write.{Write}
 use Rattle.user.specs.Asking.{Settings as UserSettings}
-use Rattle.user.specs.Update.{UpdateLeft}
-use Rattle.user.specs.Write.{WriteLeft, signsNext, writeStarted}
-use Rattle.user.specs.Read.{ReadLeft}
-use Rattle.whole_run.specs.World
-use Rattle.whole_run.specs.World.{Group, settingsOf, Event, hashed, signed, accepted, answered, allHashed, returned, writeLent, User, Call, idle, updating, writing, reading, Input, startUpdate, startWrite, startRead, userStep, taking, updateHashed, recordAccepted, openingHashed, writeSigned, writeAccepted, readHashed}
+use Rattle.whole_run.specs.World.{Group, settingsOf, accepted, answered, Input, userStep}
 use Rattle.whole_run.specs.Runs.{World, Step, user, server, setup, withUser, withServer, serverEvents, step, run}
-
--- events with no answer of H among them
-abbrev Quiet : List Event → Type 0
-Quiet es = (q x : List ℕ) → List·Memᴰ (answered q x) es → ⊥
-
-quiet-none : Quiet []
-quiet-none q x m = List·Memᴰ·not-nil m
-
-quiet-cons : (e : Event) (es : List Event) → ((q x : List ℕ) → answered q x ≡ e → ⊥) → Quiet es → Quiet (e ∷ es)
-quiet-cons e es n k q x m = elim (List·Memᴰ·cases-cons m) [ inl i ↦ n q x i | inr i ↦ k q x i ]
-
-quiet-join : (es fs : List Event) → Quiet es → Quiet fs → Quiet (es ++ fs)
-quiet-join es fs k l q x m = elim (List·Memᴰ·append-cases es m) [ inl i ↦ k q x i | inr i ↦ l q x i ]
-
--- where a test decides what is noted
-quiet-by : (b : Bool) (es : List Event) → (b ≡ true → Quiet es) → (b ≡ false → Quiet es) → Quiet es
-quiet-by b es f g = by-bool (λ t. b ≡ t → Quiet es) b (λ _. f) (λ _. g) refl
-
-quiet-hashed : (ss : List (List ℕ)) → Quiet (allHashed ss)
-unfolding allHashed
-quiet-hashed [] = quiet-none
-quiet-hashed (s ∷ ss) = quiet-cons (hashed s) (allHashed ss) (λ q x e. let z : _≡_ {A = ℕ} 0 1 = cc in absurd (omega arith)) (quiet-hashed ss)
-
-quiet-signed : (a : ℕ) (t : List ℕ) → Quiet (signed a t ∷ [])
-quiet-signed a t = quiet-cons (signed a t) [] (λ q x e. let z : _≡_ {A = ℕ} 0 1 = cc in absurd (omega arith)) quiet-none
-
-quiet-accepted : (a : ℕ) (t : List ℕ) → Quiet (accepted a t ∷ [])
-quiet-accepted a t = quiet-cons (accepted a t) [] (λ q x e. let z : _≡_ {A = ℕ} 0 1 = cc in absurd (omega arith)) quiet-none
-
--- a user's step answers nothing in H's name
-module _ (s : UserSettings) where
-  quiet-update : (v : ℕ) (l : UpdateLeft) → Quiet (updateHashed v l)
-  unfolding updateHashed
-  quiet-update v l = quiet-by (returned (l .step)) _ (λ e. rw e (quiet-hashed _)) (λ e. rw e quiet-none)
-
-  quiet-record : (x : Asking) (u next : Update) (a : List ℕ) → Quiet (recordAccepted s x u next a)
-  unfolding recordAccepted
-  quiet-record x u next a =
-      quiet-by (eqb (x .code) 0 && eqb (u .asked) (s .servers)) _ (λ e. rw e (quiet-accepted _ _)) (λ e. rw e quiet-none)
-
-  quiet-opening : (v : ℕ) (w : Write) (l : WriteLeft) → Quiet (openingHashed s v w l)
-  unfolding openingHashed
-  quiet-opening v w l =
-      quiet-by (eqb (l .step .code) 0 && (not (w .opened) && l .call .opened)) _ (λ e. rw e (quiet-hashed _)) (λ e. rw e quiet-none)
-
-  quiet-sign : (k : Kept) (w : Write) (l : WriteLeft) → Quiet (writeSigned s k w l)
-  unfolding writeSigned
-  quiet-sign k w l =
-      quiet-by (eqb (l .step .code) 0 && (w .opened && signsNext k w)) _ (λ e. rw e (quiet-signed _ _)) (λ e. rw e quiet-none)
-
-  quiet-write : (w : Write) (l : WriteLeft) (a : List ℕ) → Quiet (writeAccepted s w l a)
-  unfolding writeAccepted
-  quiet-write w l a = quiet-by (w .opened) _ (λ e. rw e quiet-none) (λ e. rw e (quiet-record _ _ _ a))
-
-  quiet-read : (v : ℕ) (l : ReadLeft) → Quiet (readHashed v l)
-  unfolding readHashed
-  quiet-read v l = quiet-by (returned (l .step)) _ (λ e. rw e (quiet-hashed _)) (λ e. rw e quiet-none)
-
-  taking-quiet : (u : User) (a : List ℕ) (c : Call) → Quiet (taking s u a c .events)
-  unfolding taking
-  taking-quiet u a idle = quiet-none
-  taking-quiet u a (updating c) = quiet-join _ _ (quiet-update _ _) (quiet-record _ _ _ a)
-  taking-quiet u a (writing w) = quiet-join _ _ (quiet-opening _ w _) (quiet-join _ _ (quiet-sign _ w _) (quiet-write w _ a))
-  taking-quiet u a (reading r) = quiet-read _ _
-
-  user-quiet : (u : User) (i : Input) → Quiet (userStep s u i .events)
-  unfolding userStep
-  user-quiet u (startUpdate m) = quiet-none
-  user-quiet u (startWrite m entry randomizer) =
-      let l = writeStarted s (u .kept) (writeLent u m) entry randomizer (m .tree) in
-      quiet-by (u .kept .opened && eqb (l .step .code) 0) _ (λ e. rw e (quiet-hashed _)) (λ e. rw e quiet-none)
-  user-quiet u (startRead m i) = quiet-none
-  user-quiet u (World.answer a) = taking-quiet u a (u .call)
+use Rattle.whole_run.proofs.Quiet.{answers-before}
 
 -- the tenth byte of an answer is its code, whatever the other fields are
 code-byte : (kind own p l c : ℕ) (body : List ℕ) → c < 256 → answerCode (answerHeader kind own p l c ++ body) ≡ c
 unfolding answer answerHeader
 code-byte kind own p l c body h =
     rw (be-mod 1 kind, be-mod 1 own, be-mod 4 p, be-mod 1 l) at (
-      answer-code (kind % 256) (own % 256) (p % 4294967296) (l % 256) c body
-      (mod-lt kind (omega arith)) (mod-lt own (omega arith)) (mod-lt p (omega arith)) (mod-lt l (omega arith)) h)
+    answer-code (kind % 256) (own % 256) (p % 4294967296) (l % 256) c body
+    (mod-lt kind (omega arith)) (mod-lt own (omega arith)) (mod-lt p (omega arith)) (mod-lt l (omega arith)) h)
 
 -- a Reserve's codes are 0 to 4
 reserve-codes : (a b c d : Bool) → cond a (cond b (cond c (cond {A = ℕ} d 0 4) 3) 2) 1 < 256
@@ -136,16 +54,16 @@ record Past (p : ℕ) (δ : List ℕ) (h : Head) : Type 0 where
 
 -- one call of H
 module _ (s : Settings) (h : Head) (store : List ℕ) (used : ℕ) (q buffer : List ℕ) where
-  abbrev left : Left
-  left = served s h store used q buffer
+  abbrev after : Left
+  after = served s h store used q buffer
 
-  -- an accepted Reserve is the head from then on; check 1 gave it 32 bytes
-  reserved-body : left .out .code ≡ 0 → requestKind q ≡ 5 → length (requestBody q) ≡ 32
+  -- an accepted Reserve is the head from then on; by check 1 its body has 32 bytes
+  reserved-body : after .out .code ≡ 0 → requestKind q ≡ 5 → length (requestBody q) ≡ 32
   unfolding bodyFits
   reserved-body ok k = eqb-true (length (requestBody q)) 32 (rw k at (accepted-fits s h store used q buffer ok .body))
 
-  reserved-head : left .out .code ≡ 0 → requestKind q ≡ 5
-      → (left .out .head .position ≡ requestPosition q) × (left .out .head .digest ≡ requestBody q)
+  reserved-head : after .out .code ≡ 0 → requestKind q ≡ 5
+      → (after .out .head .position ≡ requestPosition q) × (after .out .head .digest ≡ requestBody q)
   unfolding headAfter
   reserved-head ok k =
       let l = reserved-body ok k in
@@ -156,9 +74,9 @@ module _ (s : Settings) (h : Head) (store : List ℕ) (used : ℕ) (q buffer : L
         eq-eqb (requestKind q) 5 k,
       ) (refl, d)
 
-  digest-stays-whole : length (h .digest) ≡ 32 → length (left .out .head .digest) ≡ 32
+  digest-stays-whole : length (h .digest) ≡ 32 → length (after .out .head .digest) ≡ 32
   digest-stays-whole w =
-      cases-eq (left .out .code) 0
+      cases-eq (after .out .code) 0
       (λ ok. cases-eq (requestKind q) 5
       (λ k. ap length (reserved-head ok k .1) ∙ reserved-body ok k)
       (λ n. rw (head-changes-only-by-reserve s h store used q buffer n) w))
@@ -173,7 +91,7 @@ module _ (s : Settings) (h : Head) (store : List ℕ) (used : ℕ) (q buffer : L
 
   -- the answer that is noted is the one that was given, and its code that of the call
   module _ (z : firstCode (setupChecks s h store used buffer) ≡ 0) where
-    all-given : take (left .out .answered) (left .answer) ≡ given s h store used q buffer
+    all-given : take (after .out .answered) (after .answer) ≡ given s h store used q buffer
     unfolding setupChecks
     all-given =
         let p = served-passed s h store used q buffer z in
@@ -182,7 +100,7 @@ module _ (s : Settings) (h : Head) (store : List ℕ) (used : ℕ) (q buffer : L
         rw p (rw zero-add at (take-written buffer 0 (length (given s h store used q buffer)) (given s h store used q buffer) refl (omega arith)))
 
     -- so code 0 in the answer to a Reserve is code 0 of the call
-    answer-accepts : requestKind q ≡ 5 → answerCode (take (left .out .answered) (left .answer)) ≡ 0 → left .out .code ≡ 0
+    answer-accepts : requestKind q ≡ 5 → answerCode (take (after .out .answered) (after .answer)) ≡ 0 → after .out .code ≡ 0
     unfolding answerGiven headerGiven
     answer-accepts k e =
         let p = served-passed s h store used q buffer z in
@@ -190,18 +108,18 @@ module _ (s : Settings) (h : Head) (store : List ℕ) (used : ℕ) (q buffer : L
         rw p (sym c ∙ (rw all-given at e))
 
   -- a call notes its answer, if it gives one
-  noted : (r x : List ℕ) → List·Memᴰ (answered r x) (serverEvents q left)
-      → (r ≡ q) × (x ≡ take (left .out .answered) (left .answer)) × (left .out .answered ≡ 0 → ⊥)
+  noted : (r x : List ℕ) → List·Memᴰ (answered r x) (serverEvents q after)
+      → (r ≡ q) × (x ≡ take (after .out .answered) (after .answer)) × (after .out .answered ≡ 0 → ⊥)
   unfolding serverEvents
   noted r x m =
-      let a : List ℕ = take (left .out .answered) (left .answer) in
-      by-eqb (λ b. List·Memᴰ (answered r x) (cond b [] (answered q a ∷ [])) → (r ≡ q) × (x ≡ a) × (left .out .answered ≡ 0 → ⊥)) (left .out .answered) 0
+      let a : List ℕ = take (after .out .answered) (after .answer) in
+      by-eqb (λ b. List·Memᴰ (answered r x) (cond b [] (answered q a ∷ [])) → (r ≡ q) × (x ≡ a) × (after .out .answered ≡ 0 → ⊥)) (after .out .answered) 0
       (λ _ i. absurd (List·Memᴰ·not-nil i))
       (λ n i. elim (List·Memᴰ·cases-cons i) [ inl e ↦ (cc, cc, n) | inr j ↦ absurd (List·Memᴰ·not-nil j) ])
       m
 
-  noted-accepts : (r x : List ℕ) → List·Memᴰ (answered r x) (serverEvents q left) → requestKind r ≡ 5 → answerCode x ≡ 0
-      → (r ≡ q) × (left .out .code ≡ 0)
+  noted-accepts : (r x : List ℕ) → List·Memᴰ (answered r x) (serverEvents q after) → requestKind r ≡ 5 → answerCode x ≡ 0
+      → (r ≡ q) × (after .out .code ≡ 0)
   unfolding refusedSetup
   noted-accepts r x m k e =
       let n = noted r x m in
@@ -210,7 +128,7 @@ module _ (s : Settings) (h : Head) (store : List ℕ) (used : ℕ) (q buffer : L
       (λ i. absurd (n .2 (rw (served-refused s h store used q buffer _ refl i))))
 
   -- a head at p or past it stays so, and at p it keeps its digest
-  past-stays : (p : ℕ) (δ : List ℕ) → length (h .digest) ≡ 32 → Past p δ h → Past p δ (left .out .head)
+  past-stays : (p : ℕ) (δ : List ℕ) → length (h .digest) ≡ 32 → Past p δ h → Past p δ (after .out .head)
   past-stays p δ w k =
       let a = k .up in
       let b = position-never-falls s h store used q buffer in
@@ -220,24 +138,22 @@ module _ (s : Settings) (h : Head) (store : List ℕ) (used : ℕ) (q buffer : L
       }
 
 -- H accepted the Reserve q
-abbrev Accepted : World → List ℕ → Type 0
-Accepted w q = (x : List ℕ) × List·Memᴰ (answered q x) (w .log) × (requestKind q ≡ 5) × (answerCode x ≡ 0)
+abbrev Took : World → List ℕ → Type 0
+Took w q = (x : List ℕ) × List·Memᴰ (answered q x) (w .log) × (requestKind q ≡ 5) × (answerCode x ≡ 0)
 
 -- H's head is past every Reserve that it accepted, and for one position they have one digest
 record Logged (w : World) : Type 0 where
   pub whole : length (w .head .digest) ≡ 32
-  pub past : (q : List ℕ) → Accepted w q → Past (requestPosition q) (requestBody q) (w .head)
-  pub same : (q r : List ℕ) → Accepted w q → Accepted w r → requestPosition q ≡ requestPosition r → requestBody q ≡ requestBody r
+  pub past : (q : List ℕ) → Took w q → Past (requestPosition q) (requestBody q) (w .head)
+  pub same : (q r : List ℕ) → Took w q → Took w r → requestPosition q ≡ requestPosition r → requestBody q ≡ requestBody r
 
 logged-user : (w : World) (a : ℕ) (i : Input) (s : UserSettings) → Logged w → Logged (withUser w a (userStep s (w .users a) i))
 unfolding withUser
 logged-user w a i s k =
     record { whole = k .whole; past = λ q y. k .past q (old q y); same = λ q r y z. k .same q r (old q y) (old r z) }
   where
-    old : (q : List ℕ) → Accepted (withUser w a (userStep s (w .users a) i)) q → Accepted w q
-    old q y = (y .0, elim (List·Memᴰ·append-cases (userStep s (w .users a) i .events) (y .1)) [
-        inl m ↦ absurd (user-quiet s (w .users a) i q (y .0) m) |
-        inr m ↦ m ], y .2, y .3)
+    old : (q : List ℕ) → Took (withUser w a (userStep s (w .users a) i)) q → Took w q
+    old q y = (y .0, answers-before s (w .users a) i (w .log) q (y .0) (y .1), y .2, y .3)
 
 logged-server : (w : World) (s : Settings) (q buffer : List ℕ) → Logged w → Logged (withServer w q (served s (w .head) (w .store) (w .used) q buffer))
 unfolding withServer
@@ -246,27 +162,30 @@ logged-server w s q buffer k =
       whole = digest-stays-whole s (w .head) (w .store) (w .used) q buffer (k .whole);
       past = past;
       same = λ r t y z e. elim (split r y) [
-        inl m ↦ sym (m .1) ∙ past t z .stay (m .0 ∙ e) |
-        inr m ↦ elim (split t z) [ inl n ↦ sym (past r y .stay (n .0 ∙ sym e)) ∙ n .1 | inr n ↦ k .same r t m n e ] ];
+        | inl m ↦ sym (m .1) ∙ past t z .stay (m .0 ∙ e)
+        | inr m ↦ elim (split t z) [ inl n ↦ sym (past r y .stay (n .0 ∙ sym e)) ∙ n .1 | inr n ↦ k .same r t m n e ]
+      ];
     }
   where
-    left-by : Left
-    left-by = served s (w .head) (w .store) (w .used) q buffer
+    call : Left
+    call = served s (w .head) (w .store) (w .used) q buffer
 
     next : World
-    next = withServer w q left-by
+    next = withServer w q call
 
     -- an accepted Reserve is the head now, or was accepted before
-    split : (r : List ℕ) → Accepted next r → ((next .head .position ≡ requestPosition r) × (next .head .digest ≡ requestBody r)) ⊎ Accepted w r
-    split r y = elim (List·Memᴰ·append-cases (serverEvents q left-by) (y .1)) [
-        inl m ↦ (let n = noted-accepts s (w .head) (w .store) (w .used) q buffer r (y .0) m (y .2) (y .3) in
-            inl (rw (n .0) (reserved-head s (w .head) (w .store) (w .used) q buffer (n .1) (rw (n .0) at (y .2))))) |
-        inr m ↦ inr (y .0, m, y .2, y .3) ]
+    split : (r : List ℕ) → Took next r → ((next .head .position ≡ requestPosition r) × (next .head .digest ≡ requestBody r)) ⊎ Took w r
+    split r y = elim (List·Memᴰ·append-cases (serverEvents q call) (y .1)) [
+      | inl m ↦ (let n = noted-accepts s (w .head) (w .store) (w .used) q buffer r (y .0) m (y .2) (y .3) in
+          inl (rw (n .0) (reserved-head s (w .head) (w .store) (w .used) q buffer (n .1) (rw (n .0) at (y .2)))))
+      | inr m ↦ inr (y .0, m, y .2, y .3)
+    ]
 
-    past : (r : List ℕ) → Accepted next r → Past (requestPosition r) (requestBody r) (next .head)
+    past : (r : List ℕ) → Took next r → Past (requestPosition r) (requestBody r) (next .head)
     past r y = elim (split r y) [
-        inl m ↦ record { up = omega (arith, m .0); stay = λ _. m .1 } |
-        inr m ↦ past-stays s (w .head) (w .store) (w .used) q buffer (requestPosition r) (requestBody r) (k .whole) (k .past r m) ]
+      | inl m ↦ record { up = omega (arith, m .0); stay = λ _. m .1 }
+      | inr m ↦ past-stays s (w .head) (w .store) (w .used) q buffer (requestPosition r) (requestBody r) (k .whole) (k .past r m)
+    ]
 
 logged : (g : Group) (store : List ℕ) (xs : List Step) → Logged (run g store xs)
 unfolding run setup step
