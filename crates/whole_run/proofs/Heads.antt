@@ -27,7 +27,7 @@ use Rattle.server.proofs.Theorems.{refusal-keeps-all, head-changes-only-by-rese
 use Rattle.server.proofs.After.{accepted-setup, accepted-code, accepted-fits}
 use Rattle.server.proofs.Sizes.{answer-at-most-2552}
 use Rattle.user.specs.Asking.{Settings as UserSettings}
-use Rattle.whole_run.specs.World.{Group, settingsOf, accepted, answered, Input, userStep}
+use Rattle.whole_run.specs.World.{Group, settingsOf, answered, Input, userStep}
 use Rattle.whole_run.specs.Runs.{World, Step, user, server, setup, withUser, withServer, serverEvents, step, run}
 use Rattle.whole_run.proofs.Quiet.{answers-before}
 
@@ -40,7 +40,7 @@ code-byte kind own p l c body h =
     (mod-lt kind (omega arith)) (mod-lt own (omega arith)) (mod-lt p (omega arith)) (mod-lt l (omega arith)) h)
 
 -- a Reserve's codes are 0 to 4
-reserve-codes : (a b c d : Bool) → cond a (cond b (cond c (cond {A = ℕ} d 0 4) 3) 2) 1 < 256
+reserve-codes : (a b c d : Bool) → cond a (cond b (cond c (cond {A = ℕ} d 0 4) 3) 2) 1 ≤ 4
 reserve-codes true true true true = omega arith
 reserve-codes true true true false = omega arith
 reserve-codes true true false d = omega arith
@@ -82,7 +82,7 @@ module _ (s : Settings) (h : Head) (store : List ℕ) (used : ℕ) (q buffer : L
       (λ n. rw (head-changes-only-by-reserve s h store used q buffer n) w))
       (λ n. rw (refusal-keeps-all s h store used q buffer n .0) w)
 
-  reserve-code-small : requestKind q ≡ 5 → code s h store used q buffer < 256
+  reserve-code-small : requestKind q ≡ 5 → code s h store used q buffer ≤ 4
   unfolding requestChecks checksOver kindChecks firstCode
   reserve-code-small k =
       let one : requestKind q ≡ 1 → ⊥ = λ e. omega arith in
@@ -104,7 +104,7 @@ module _ (s : Settings) (h : Head) (store : List ℕ) (used : ℕ) (q buffer : L
     unfolding answerGiven headerGiven
     answer-accepts k e =
         let p = served-passed s h store used q buffer z in
-        let c = code-byte _ (s .own) _ _ (code s h store used q buffer) _ (reserve-code-small k) in
+        let c = code-byte _ (s .own) _ _ (code s h store used q buffer) _ (omega (arith, reserve-code-small k)) in
         rw p (sym c ∙ (rw all-given at e))
 
   -- a call notes its answer, if it gives one

@@ -7,7 +7,6 @@ use Prim.Native.Nat.{ℕ}
 use native.Mathlib.Omega.{arith}
 use lib.Dec.{eqb}
 use Rattle.sha256.proofs.Cases.{by-bool}
-use Rattle.tree.specs.Message.{answer}
 use Rattle.user.specs.declared.call.Kept.{Kept}
 use Rattle.user.specs.declared.call.Step.{Step as Asking}
 use Rattle.user.specs.declared.call.Update.{Update}
@@ -16,9 +15,7 @@ use Rattle.user.specs.Asking.{Settings}
 use Rattle.user.specs.Update.{UpdateLeft}
 use Rattle.user.specs.Write.{WriteLeft, signsNext, writeStarted}
 use Rattle.user.specs.Read.{ReadLeft}
-use Rattle.whole_run.specs.World
-use Rattle.whole_run.specs.World.{Event, hashed, signed, accepted, answered, allHashed, returned, writeLent, User, Call, idle, updating, writing, reading, Input, startUpdate, startWrite, startRead, userStep, taking, updateHashed, recordAccepted, openingHashed, writeSigned, writeAccepted, readHashed}
-use Rattle.whole_run.specs.Runs.{World, step}
+use Rattle.whole_run.specs.World.{Event, hashed, signed, accepted, answered, allHashed, returned, writeLent, User, Call, idle, updating, writing, reading, Input, startUpdate, startWrite, startRead, answer, userStep, taking, updateHashed, recordAccepted, openingHashed, writeSigned, writeAccepted, readHashed}
 
 -- events with no answer of H among them
 abbrev Quiet : List Event → Type 0
@@ -91,7 +88,7 @@ module _ (s : Settings) where
       let l = writeStarted s (u .kept) (writeLent u m) entry randomizer (m .tree) in
       quiet-by (u .kept .opened && eqb (l .step .code) 0) _ (λ e. rw e (quiet-hashed _)) (λ e. rw e quiet-none)
   user-quiet u (startRead m i) = quiet-none
-  user-quiet u (World.answer a) = taking-quiet u a (u .call)
+  user-quiet u (answer a) = taking-quiet u a (u .call)
 
   -- So an answer of H that is noted after a user's step was noted before it.
   pub answers-before : (u : User) (i : Input) (log : List Event) (q x : List ℕ)
