@@ -24,8 +24,9 @@ Quiet es = (q x : List ℕ) → List·Memᴰ (answered q x) es → ⊥
 quiet-none : Quiet []
 quiet-none q x m = List·Memᴰ·not-nil m
 
-quiet-cons : (e : Event) (es : List Event) → ((q x : List ℕ) → answered q x ≡ e → ⊥) → Quiet es → Quiet (e ∷ es)
-quiet-cons e es n k q x m = elim (List·Memᴰ·cases-cons m) [ inl i ↦ n q x i | inr i ↦ k q x i ]
+-- an event of another kind before such events
+quiet-cons : (e : Event) (es : List Event) → ((q x : List ℕ) → answered q x ≡ e → _≡_ {A = ℕ} 0 1) → Quiet es → Quiet (e ∷ es)
+quiet-cons e es n k q x m = elim (List·Memᴰ·cases-cons m) [ inl i ↦ (let z = n q x i in absurd (omega arith)) | inr i ↦ k q x i ]
 
 quiet-join : (es fs : List Event) → Quiet es → Quiet fs → Quiet (es ++ fs)
 quiet-join es fs k l q x m = elim (List·Memᴰ·append-cases es m) [ inl i ↦ k q x i | inr i ↦ l q x i ]
@@ -37,13 +38,13 @@ quiet-by b es f g = by-bool (λ t. b ≡ t → Quiet es) b (λ _. f) (λ _. g) r
 quiet-hashed : (ss : List (List ℕ)) → Quiet (allHashed ss)
 unfolding allHashed
 quiet-hashed [] = quiet-none
-quiet-hashed (s ∷ ss) = quiet-cons (hashed s) (allHashed ss) (λ q x e. let z : _≡_ {A = ℕ} 0 1 = cc in absurd (omega arith)) (quiet-hashed ss)
+quiet-hashed (s ∷ ss) = quiet-cons (hashed s) (allHashed ss) (λ q x e. cc) (quiet-hashed ss)
 
 quiet-signed : (a : ℕ) (t : List ℕ) → Quiet (signed a t ∷ [])
-quiet-signed a t = quiet-cons (signed a t) [] (λ q x e. let z : _≡_ {A = ℕ} 0 1 = cc in absurd (omega arith)) quiet-none
+quiet-signed a t = quiet-cons (signed a t) [] (λ q x e. cc) quiet-none
 
 quiet-accepted : (a : ℕ) (t : List ℕ) → Quiet (accepted a t ∷ [])
-quiet-accepted a t = quiet-cons (accepted a t) [] (λ q x e. let z : _≡_ {A = ℕ} 0 1 = cc in absurd (omega arith)) quiet-none
+quiet-accepted a t = quiet-cons (accepted a t) [] (λ q x e. cc) quiet-none
 
 -- each list of events that a user's step can note
 module _ (s : Settings) where
