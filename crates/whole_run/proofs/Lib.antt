@@ -6,3 +6,5 @@ pub mod States
 pub mod UpdateSteps
 pub mod Writing
 pub mod WriteSteps
+pub mod Quiet
+pub mod Heads

@@ -230,3 +230,22 @@ module _ (s : Settings) (H : ℕ) (named : length (s .log) ≡ 16)
           own = own-given (l .0);
           new = new-given (l .1);
         }
+
+    -- an Update does not end at the Record: the cover of p* is not empty
+    some-position : c .asked ≡ s .servers → 0 < c .position
+    unfolding updateEnded
+    some-position h =
+        positive (c .position)
+        (λ z.
+        let e : updateEnded (s .servers) (k .version) c ≡ true = rw (eq-eqb (c .asked) (s .servers) h, eq-eqb (c .position) 0 z) in
+        not-both _ e (t .waiting))
+
+    pub record-not-last : updateEnded (s .servers) (k .version) after ≡ true → c .asked ≡ s .servers → ⊥
+    record-not-last e h =
+        let p = later-position (omega arith) in
+        let z = some-position h in
+        let i = next-asked in
+        let j = counted e (omega arith) in
+        let x = cover-some (k .version) (c .position) (ok .above (omega arith)) z in
+        let l : s .servers + 1 + length (cover (k .version) (c .position)) ≤ after .asked = rw p at j in
+        omega arith
