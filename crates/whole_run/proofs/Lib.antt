@@ -6,5 +6,8 @@ pub mod States
 pub mod UpdateSteps
 pub mod Writing
 pub mod WriteSteps
+pub mod Opening
+pub mod WriteStart
+pub mod ReadSteps
 pub mod Quiet
 pub mod Heads

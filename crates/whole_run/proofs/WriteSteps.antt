@@ -42,23 +42,25 @@ accepting-signs-nothing : (s : Settings) (w : Write) (l : WriteLeft) (a : List �
 unfolding writeAccepted
 accepting-signs-nothing s w l a = none-cond (w .opened) [] _ none-of-none (record-signs-nothing s (l .step) (w .update) (l .call .update) a)
 
-abbrev writeEvents : Settings → Kept → Write → WriteLeft → List ℕ → List Event
+abbrev pub writeEvents : Settings → Kept → Write → WriteLeft → List ℕ → List Event
 writeEvents s k w l a = openingHashed s (k .version) w l ++ (writeSigned s k w l ++ writeAccepted s w l a)
 
-only-signed : (s : Settings) (k : Kept) (w : Write) (l : WriteLeft) (a : List ℕ) (b : ℕ) (t : List ℕ)
+pub only-signed : (s : Settings) (k : Kept) (w : Write) (l : WriteLeft) (a : List ℕ) (b : ℕ) (t : List ℕ)
     → List·Memᴰ (signed b t) (writeEvents s k w l a) → List·Memᴰ (signed b t) (writeSigned s k w l)
 only-signed s k w l a b t m =
     elim (List·Memᴰ·append-cases (openingHashed s (k .version) w l) m) [
-      inl x ↦ absurd (opening-signs-nothing s (k .version) w l b t x)
-    | inr y ↦ elim (List·Memᴰ·append-cases (writeSigned s k w l) y) [
-      inl x ↦ x
-    | inr z ↦ absurd (accepting-signs-nothing s w l a b t z) ] ]
+      | inl x ↦ absurd (opening-signs-nothing s (k .version) w l b t x)
+      | inr y ↦ elim (List·Memᴰ·append-cases (writeSigned s k w l) y) [
+        | inl x ↦ x
+        | inr z ↦ absurd (accepting-signs-nothing s w l a b t z)
+      ]
+    ]
 
 -- a signature is of the user's own digest, and only where the step makes one
-abbrev ownText : Settings → Kept → WriteLeft → List ℕ
+abbrev pub ownText : Settings → Kept → WriteLeft → List ℕ
 ownText s k l = signedText (s .log) (suc (k .version)) (pathDigest (suc (k .version)) (l .lent .path))
 
-signed-is : (s : Settings) (k : Kept) (w : Write) (l : WriteLeft) (b : ℕ) (t : List ℕ) → List·Memᴰ (signed b t) (writeSigned s k w l)
+pub signed-is : (s : Settings) (k : Kept) (w : Write) (l : WriteLeft) (b : ℕ) (t : List ℕ) → List·Memᴰ (signed b t) (writeSigned s k w l)
     → (w .opened && signsNext k w ≡ true) × ((b ≡ s .own) × (t ≡ ownText s k l))
 unfolding writeSigned
 signed-is s k w l b t m =
@@ -249,3 +251,21 @@ module _ (s : Settings) (H : ℕ) (named : length (s .log) ≡ 16)
                   reserved = all-reserved z;
                 });
           }
+
+    -- an answer that an open write takes in
+    refused-ok : (w : Write) (a : List ℕ) (code : ℕ) → w .opened ≡ true → (code ≡ 0 → ⊥) → Good (outcome w a (writeRefused code a (u .kept) w (writeLent u m)))
+    unfolding afterWrite writeRefused refused writeSigned
+    refused-ok w a code o z =
+        record {
+          user = record { state = i; call = tt };
+          signatures = λ b t x. absurd (List·Memᴰ·not-nil (rw (ne-eqb code 0 z) at (only-signed s (u .kept) w (writeRefused code a (u .kept) w (writeLent u m)) a b t x)));
+        }
+
+    pub write-goes-ok : (w : Write) (a : List ℕ) → w .opened ≡ true
+        → GoesOk (suc (u .kept .version)) (pathDigest (suc (u .kept .version)) (u .path)) (u .kept .signed) (u .sent) (w .asked)
+        → (u .sent .server ≡ H → A (u .sent .bytes) a)
+        → Noted (outcome w a (writeGoes s (u .kept) w (writeLent u m) (m .tree) a) .events)
+        → Good (outcome w a (writeGoes s (u .kept) w (writeLent u m) (m .tree) a))
+    write-goes-ok w a o ok fair =
+        by-going s (u .kept) w (writeLent u m) (m .tree) a (λ l. Noted (outcome w a l .events) → Good (outcome w a l))
+        (λ z n. refused-ok w a _ o z) (λ g e n. committed-ok w a ok fair o g e) (λ g e n. next-ok w a ok fair o g e n)
