@@ -1,2 +1,3 @@
 -- the proof of the claim
 pub mod Histories
+pub mod Views
