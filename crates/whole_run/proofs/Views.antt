@@ -1,21 +1,24 @@
 -- The end of a user's accepted view, moved by four events that look at requests and answers, is the version that it keeps.
 use mathlib.Core.Path.{_≡_, refl, _∙_, sym, ap}
-use mathlib.Core.Bool.{Bool, true, false, cond, not, _&&_, _||_}
+use mathlib.Core.Bool.{Bool, true, false, cond, not, _&&_, _||_, and-comm}
 use mathlib.Core.List.{List, [], _∷_, _++_}
 use Prim.Native.Nat.{ℕ, zero, suc, _+_, _-_, _%_, _≤_, _<_}
 use native.Mathlib.Omega.{arith}
 use lib.Dec.{eqb, leb, ltb}
 use lib.ListN.{length, take, drop, length-append, length-take, length-replicate}
 use lib.Seq.{take-at, length-take-le}
-use borrow.Author.Tests.{eqb-true, eqb-false, eq-eqb, ne-eqb, leb-true, ltb-true, lt-ltb, le-ltb, lt-leb}
+use borrow.Author.Tests.{eqb-true, eqb-false, eq-eqb, ne-eqb, leb-true, ltb-true, lt-ltb, le-ltb, le-leb, lt-leb}
 use Rattle.sha256.specs.Bytes.{be, written}
 use Rattle.sha256.proofs.Laws.{be-mod, written-fits}
 use Rattle.sha256.proofs.Cases.{by-bool, cases-lt}
 use Rattle.lms.specs.Types.{LMOTS_SHA256_N32_W4, LMS_SHA256_M32_H10}
+use Rattle.lms.specs.Tree.{treeSize}
+use Rattle.lms.specs.Signature.{signature, signatureSize}
+use Rattle.lms.specs.Claims.{SignatureLength}
 use Rattle.lms.proofs.RoundTrip.{signature-length}
 use Rattle.tree.specs.Level.{lg}
 use Rattle.tree.specs.Cover.{cover, piece}
-use Rattle.tree.specs.Message.{request, requestHeader, requestKind, requestPosition, answerBody}
+use Rattle.tree.specs.Message.{request, requestHeader, requestKind, requestPosition, answerBody, signedText}
 use Rattle.tree.specs.Setup.{groupFits, Check, on, firstCode}
 use Rattle.tree.proofs.Cases.{and-true, not-both, by-eqb, cases-eq}
 use Rattle.tree.proofs.Messages.{be-one, request-header-length, request-position}
@@ -27,8 +30,9 @@ use Rattle.user.specs.declared.call.Update.{Update}
 use Rattle.user.specs.declared.call.Write.{Write}
 use Rattle.user.specs.Asking.{Settings, settingsFit, keptFits, setupChecks, requestRoom, Want, ofNode, ofStatus, asks, answerChecks, refused, done, asking}
 use Rattle.user.specs.Update.{UpdateLeft, freshUpdate, updateEnded, updateWant, headHolds, statusTaken, updateNext, updateChecks, arrived, updateGoes, updateRefused, updateSetup, updateStarted, updateEarly, updateCollected, updateTaken}
-use Rattle.user.specs.Write.{WriteLent, WriteLeft, entryFits, pathDigest, commitNumber, writeKind, writeLevel, writeWant, writeBody, withUpdate, heldEntry, writeAsks, writeWaits, writeRefused, writeRoom, writeStartChecks, freshWrite, writeStarted, openingChecks, opening, openedAt, writeOpens, writeUpdates, signsNext, writeChecks, writeSignature, signing, committed, writeGoes, writeTaken}
-use Rattle.whole_run.specs.World.{Group, settingsOf, Lent, Call, idle, updating, writing, reading, Sent, User, sentBy, returned, viewSent, afterUpdate, afterWrite, afterRead, writeLent, readLent, Input, startUpdate, startWrite, startRead, answer, taking, userStep}
+use Rattle.user.specs.Write.{WriteLent, WriteLeft, entryFits, pathDigest, commitNumber, writeKind, writeLevel, writeWant, writeBody, withHashes, withHeld, withSignature, withUpdate, heldEntry, writeAsks, writeWaits, writeRefused, writeRoom, writeStartChecks, freshWrite, writeStarted, openingChecks, opening, openedAt, writeOpens, writeUpdates, signsNext, writeChecks, writeSignature, signing, committed, writeGoes, writeTaken}
+use Rattle.user.specs.Read.{ReadLeft}
+use Rattle.whole_run.specs.World.{Group, settingsOf, Event, Lent, Call, idle, updating, writing, reading, Sent, User, sentBy, returned, viewSent, afterUpdate, afterWrite, afterRead, writeLent, readLent, Input, startUpdate, startWrite, startRead, answer, taking, userStep}
 use Rattle.whole_run.specs.Runs.{Step as RunStep, user, server, newUser, setup, withUser, withServer, step, run, FairInput, FairStep, Fair}
 use Rattle.whole_run.specs.Claim.{ViewIsVersion}
 
@@ -134,6 +138,10 @@ arrived-version : (k : Kept) (c : Update) → k .version ≤ c .position → arr
 unfolding arrived
 arrived-version k c h =
     cases-eq (c .position) 0 (λ e. rw (eq-eqb (c .position) 0 e) (omega arith)) (λ e. rw (ne-eqb (c .position) 0 e))
+
+first-asks : (s : Settings) (k : Kept) (hashes buffer : List ℕ) → 2 ≤ s .servers → returned (updateGoes s k freshUpdate hashes buffer .step) ≡ false
+unfolding updateGoes freshUpdate asking returned
+first-asks s k hashes buffer two = rw (not-ended (s .servers) (k .version) freshUpdate (omega arith))
 
 -- what an Update with this request buffer leaves of the view: it hands out no Reserve
 record Went (n : ℕ) (k : Kept) (buffer : List ℕ) (l : UpdateLeft) : Type 0 where
@@ -297,3 +305,148 @@ holds-asking s named u m k w o z room short random opened fits seen =
       sized = z;
       calling = (short, random, λ e. at-p, λ e. not-both (w .opened) opened e);
     }
+
+holds-cond : (n : ℕ) (u : User) (m : Lent) (b : Bool) (x y : WriteLeft) → (b ≡ true → Holds n (afterWrite u m x))
+    → (b ≡ false → Holds n (afterWrite u m y)) → Holds n (afterWrite u m (cond b x y))
+holds-cond n u m b x y f g = by-bool (λ t. Holds n (afterWrite u m (cond t x y))) b f g
+
+-- the memory and the length of the entry at a start
+room-passes : (tree buffer : List ℕ) → writeRoom tree buffer ≡ true → (2566 ≤ length buffer) × (65504 ≤ length tree)
+unfolding writeRoom requestRoom
+room-passes tree buffer e =
+    let x = and-true (requestRoom buffer) (leb 65504 (length tree)) e in
+    (leb-true 2566 (length buffer) (x .0), leb-true 65504 (length tree) (x .1))
+
+entry-short : (entry : List ℕ) → entryFits entry ≡ true → length entry ≤ 1024
+unfolding entryFits
+entry-short entry e =
+    leb-true (length entry) 1024 (and-true (leb (length entry) 1024) _ (and-true (leb 1 (length entry)) _ e .1) .0)
+
+-- the signature that is kept or made has 2,508 bytes: check 17 leaves it a number, 21 a tree
+signature-sized : (s : Settings) (k : Kept) (w : Write) (o : WriteLent) (tree : List ℕ) → length (o .signature) ≡ 2508
+    → length (w .randomizer) ≡ 32 → 65504 ≤ length tree → not (signsNext k w) || ltb (k .number) 1024 ≡ true
+    → length (writeSignature s k w o tree) ≡ 2508
+unfolding writeSignature SignatureLength signatureSize treeSize
+signature-sized s k w o tree z random long free =
+    by-bool (λ t. (not t || ltb (k .number) 1024 ≡ true) → length (cond t (signature LMOTS_SHA256_N32_W4 LMS_SHA256_M32_H10 (s .id) (s .seed) (k .number) (w .randomizer) (signedText (s .log) (suc (k .version)) (pathDigest (suc (k .version)) (o .path))) tree) (o .signature)) ≡ 2508) (signsNext k w)
+    (λ e f. signature-length LMOTS_SHA256_N32_W4 LMS_SHA256_M32_H10 (s .id) (s .seed) (w .randomizer) _ tree (k .number) random (ltb-true (k .number) 1024 f) long)
+    (λ e f. z) free
+
+-- the steps of a user u, whose log has a name of 16 bytes
+module _ (s : Settings) (named : length (s .log) ≡ 16) (u : User) (h : Holds (s .servers) u) where
+  holds-started : (m : Lent) (entry randomizer : List ℕ) → length randomizer ≡ 32
+      → Holds (s .servers) (afterWrite u m (writeStarted s (u .kept) (writeLent u m) entry randomizer (m .tree)))
+  unfolding writeStarted writeStartChecks setupChecks freshWrite
+  holds-started m entry randomizer random =
+      let k = u .kept in
+      let n = s .servers in
+      let code = firstCode (writeStartChecks s k (u .path) entry (m .tree) (m .request)) in
+      let w = freshWrite k entry randomizer in
+      let o = withHeld (writeLent u m) (written (m .held) 0 entry) in
+      holds-cond n u m (eqb code 0) _ _
+      (λ e.
+      let first = setup-passes s k (writeRoom (m .tree) (m .request)) _ (eqb-true code 0 e) in
+      let free = check-passes 18 _ _ (λ z. omega arith) (first .3) in
+      let short = entry-short entry (check-passes 19 _ _ (λ z. omega arith) (free .1) .0) in
+      let room = room-passes (m .tree) (m .request) (first .2) .0 in
+      holds-cond n u m (k .opened) _ _
+      (λ d. holds-asking s named u m k w o (h .sized) room short random d (first .1) (λ i. h .seen))
+      (λ d. holds-waiting n u m w o _ h (h .sized) short random d (went-first s named k (m .hashes) (m .request) (first .0) room)
+      (first-asks s k (m .hashes) (m .request) (first .0))))
+      (λ e. holds-refused n u m code [] w (writeLent u m) h (h .sized) (eqb-false code 0 e))
+
+  -- an answer taken in by an open write
+  holds-goes : (m : Lent) (w : Write) (a : List ℕ) → CallHolds (s .servers) u (writing w) → w .opened ≡ true
+      → Holds (s .servers) (afterWrite u m (writeGoes s (u .kept) w (writeLent u m) (m .tree) a))
+  unfolding afterWrite writeGoes writeChecks setupChecks answerChecks done committed signing sentBy returned viewSent
+  holds-goes m w a c opened =
+      let k = u .kept in
+      let n = s .servers in
+      let o = writeLent u m in
+      let code = firstCode (writeChecks s k w o (m .tree) a) in
+      holds-cond n u m (eqb code 0) _ _
+      (λ e.
+      let first = setup-passes s k (writeRoom (m .tree) (m .request)) _ (eqb-true code 0 e) in
+      let fits = check-passes 10 _ _ (λ z. omega arith) (first .3) in
+      let taken = check-passes 11 _ _ (λ z. omega arith) (fits .1) in
+      let number = check-passes 17 _ _ (λ z. omega arith) (taken .1) in
+      let room = room-passes (m .tree) (m .request) (first .2) in
+      holds-cond n u m (eqb (w .asked) (commitNumber (suc (k .version)))) _ _
+      (λ d. record { seen = c .2 opened; sized = h .sized; calling = tt })
+      (λ d. holds-asking s named u m (signing k w) (openedAt w (suc (w .asked))) (withSignature o (writeSignature s k w o (m .tree)))
+      (signature-sized s k w o (m .tree) (h .sized) (c .1) (room .1) (number .0)) (room .0) (c .0) (c .1) refl (first .1) (λ i. h .seen)))
+      (λ e. holds-refused n u m code a w o h (h .sized) (eqb-false code 0 e))
+
+  -- a Read leaves what is kept and the view
+  holds-reading : (m : Lent) (l : ReadLeft) → Holds (s .servers) (afterRead u m l)
+  unfolding afterRead
+  holds-reading m l =
+      record {
+        seen = h .seen;
+        sized = h .sized;
+        calling = by-bool (λ t. CallHolds (s .servers) (afterRead u m l) (cond t idle (reading (l .call)))) (l .step .ended) (λ e. tt) (λ e. tt);
+      }
+
+  -- the Update of a Write has ended: the first Reserve goes out, or a refusal leaves all as it was
+  holds-opens : (m : Lent) (w : Write) (l : UpdateLeft) (a : List ℕ) → w .length ≤ 1024 → length (w .randomizer) ≡ 32
+      → 2566 ≤ length (m .request) → Holds (s .servers) (afterWrite u m (writeOpens s (u .kept) w (writeLent u m) l a))
+  unfolding writeOpens openingChecks opening writeKind
+  holds-opens m w l a short random room =
+      let n = s .servers in
+      let entry = heldEntry w (m .held) in
+      let code = firstCode (openingChecks (l .kept .version) entry) in
+      holds-cond n u m (eqb code 0) _ _
+      (λ e.
+      let first = check-passes 20 (ltb (l .kept .version) 1048576) _ (λ z. omega arith) (eqb-true code 0 e) in
+      let fits = ltb-true (l .kept .version) 1048576 (first .0) in
+      holds-asking s named u m (opening (l .kept)) (openedAt w 0) _ (h .sized) room short random refl (omega arith)
+      (λ i. absurd (i (rw (le-leb 0 (lg (suc (l .kept .version))) (omega arith))))))
+      (λ e. holds-refused n u m code a w (withHashes (writeLent u m) (l .hashes)) h (h .sized) (eqb-false code 0 e))
+
+  -- an answer taken in by the Update of a Write
+  holds-updates : (m : Lent) (w : Write) (a : List ℕ) → CallHolds (s .servers) u (writing w) → w .opened ≡ false
+      → Holds (s .servers) (afterWrite u m (writeUpdates s (u .kept) w (writeLent u m) a))
+  unfolding writeUpdates returned
+  holds-updates m w a c shut =
+      let l = updateTaken s (u .kept) (w .update) (m .hashes) (m .request) a in
+      let went = went-taken s named (u .kept) (w .update) (m .hashes) (m .request) a (c .3 shut) in
+      holds-cond (s .servers) u m (eqb (l .step .code) 0 && l .step .ended) _ _
+      (λ e. holds-opens m w l a (c .0) (c .1) (went .room (eqb-true (l .step .code) 0 (and-true (eqb (l .step .code) 0) (l .step .ended) e .0))))
+      (λ e. holds-waiting (s .servers) u m w (writeLent u m) l h (h .sized) (c .0) (c .1) shut went (and-comm (l .step .ended) (eqb (l .step .code) 0) ∙ e))
+
+  holds-taking : (a : List ℕ) (c : Call) → CallHolds (s .servers) u c → Holds (s .servers) (taking s u a c .user)
+  unfolding taking writeTaken
+  holds-taking a idle c = h
+  holds-taking a (updating x) c =
+      holds-updated (s .servers) u (u .lent) (u .lent .request) _ h (went-taken s named (u .kept) x (u .lent .hashes) (u .lent .request) a c)
+  holds-taking a (writing w) c =
+      holds-cond (s .servers) u (u .lent) (w .opened) _ _ (λ e. holds-goes (u .lent) w a c e) (λ e. holds-updates (u .lent) w a c e)
+  holds-taking a (reading r) c = holds-reading (u .lent) _
+
+  holds-step : (g : Group) (log : List Event) (i : Input) → FairInput g log u i → Holds (s .servers) (userStep s u i .user)
+  unfolding userStep FairInput
+  holds-step g log (startUpdate m) f =
+      holds-updated (s .servers) u m (m .request) _ h (went-started s named (u .kept) (m .hashes) (m .request))
+  holds-step g log (startWrite m entry randomizer) f = holds-started m entry randomizer f
+  holds-step g log (startRead m i) f = holds-reading m _
+  holds-step g log (answer a) f = holds-taking a (u .call) (h .calling)
+
+holds-new : (n : ℕ) → Holds n newUser
+unfolding newUser
+holds-new n = record { seen = refl; sized = length-replicate {A = ℕ} 2508 0; calling = tt }
+
+-- after every list of fair steps
+all-hold : (g : Group) → length (g .log) ≡ 16 → (store : List ℕ) (xs : List RunStep) → Fair g store xs → (a : ℕ)
+    → Holds (g .servers) (run g store xs .users a)
+unfolding run setup step withUser withServer Fair FairStep settingsOf
+all-hold g named store [] f a = holds-new (g .servers)
+all-hold g named store (user b i ∷ xs) f a =
+    let w = run g store xs in
+    by-bool (λ t. Holds (g .servers) (cond t (userStep (settingsOf g b) (w .users b) i .user) (w .users a))) (eqb a b)
+    (λ e. holds-step (settingsOf g b) named (w .users b) (all-hold g named store xs (f .1) b) g (w .log) i (f .0))
+    (λ e. all-hold g named store xs (f .1) a)
+all-hold g named store (server q buffer ∷ xs) f a = all-hold g named store xs (f .1) a
+
+pub view-is-version : ViewIsVersion
+unfolding ViewIsVersion
+view-is-version g named store xs f a = all-hold g named store xs f a .seen
