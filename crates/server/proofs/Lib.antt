@@ -1,7 +1,15 @@
 -- Laws that several proofs cite.
 pub mod Records
+pub mod Appended
+pub mod Asked
 pub mod Judged
 pub mod Codes
 pub mod Effects
 pub mod Served
+-- What holds of every call, and of one call after another.
 pub mod Theorems
+pub mod After
+pub mod PullTheorems
+pub mod OtherPulls
+pub mod Repeats
+pub mod Sizes

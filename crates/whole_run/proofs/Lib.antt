@@ -1,3 +1,5 @@
 -- the proof of the claim
 pub mod Histories
+pub mod Passed
+pub mod Updating
 pub mod Views

@@ -1,0 +1,211 @@
+-- An Update's answers: what holds of a user's Update while it goes on, and of its end.
+use mathlib.Core.Path.{_≡_, refl, ap, sym, _∙_, subst}
+use mathlib.Core.Bool.{Bool, true, false, cond, not, _&&_, _||_}
+use mathlib.Core.List.{List, [], _∷_, _++_}
+use Prim.Native.Nat.{ℕ, zero, suc, _+_, _-_, _≤_, _<_}
+use native.Mathlib.Omega.{arith}
+use lib.Dec.{eqb, leb, ltb}
+use lib.ListN.{length, drop, length-append}
+use borrow.Author.Tests.{eq-eqb, ne-eqb, eqb-true, leb-true, lt-ltb, le-ltb}
+use Rattle.sha256.specs.Bytes.{eqs, numberAt}
+use Rattle.sha256.proofs.Laws.{eqs-true}
+use Rattle.sha256.proofs.Cases.{by-bool}
+use Rattle.tree.specs.Label.{owner}
+use Rattle.tree.specs.Level.{lg}
+use Rattle.tree.specs.Expr.{value, NoCollision}
+use Rattle.tree.specs.Cover.{tilesIn, tiles, peaks, cover, piece, coverDigest}
+use Rattle.tree.specs.Message.{answerCode, answerBody, signedText}
+use Rattle.tree.specs.Setup.{inLog, Check, on, firstCode}
+use Rattle.tree.proofs.Cases.{and-true, cases-le, cases-eq, by-eqb, positive, not-both}
+use Rattle.tree.proofs.Setup.{check-passes, checked-front, checked-back}
+use Rattle.user.specs.declared.call.Kept.{Kept}
+use Rattle.user.specs.declared.call.Update.{Update}
+use Rattle.user.specs.Asking.{Settings, setupChecks, requestRoom, answerChecks, isAnswer}
+use Rattle.user.specs.Update
+use Rattle.user.specs.Update.{UpdateLeft, updateEnded, updateWant, updateNext, statusTaken, updateChecks, updateEarly, updateSetup, updateCollected, updateGoes, updateRefused, updateTaken, headHolds, toldPosition, toldLevel, toldLabel, coverGivesOwn, coverGivesNew, recordHolds}
+use Rattle.whole_run.proofs.Passed.{InRange, Answered, setup-passed, answer-passed, or-cases, not-true}
+use Rattle.whole_run.proofs.Histories
+
+-- a cover of something is not empty
+tiles-some : (o w : ℕ) → o < w → 0 < length (tiles o w)
+unfolding tiles tilesIn
+tiles-some o zero h = absurd (omega arith)
+tiles-some o (suc w) h = rw (lt-ltb o (suc w) h) (omega arith)
+
+pub cover-some : (v p : ℕ) → v ≤ p → 0 < p → 0 < length (cover v p)
+unfolding cover peaks
+cover-some v p vp z =
+    let n = length-append (tiles 0 v) (tiles v p) in
+    cases-le p v (λ h. omega (arith, tiles-some 0 v (omega arith))) (λ h. omega (arith, tiles-some v p h))
+
+-- what an answer that an Update took with code 0 has passed
+pub record Taken (s : Settings) (k : Kept) (c : Update) (hashes buffer a : List ℕ) : Type 0 where
+  pub range : InRange s k
+  pub room : requestRoom buffer ≡ true
+  pub shut : k .opened ≡ false
+  pub waiting : updateEnded (s .servers) (k .version) c ≡ false
+  pub shaped : isAnswer (updateWant (s .servers) (k .version) c) a ≡ true
+  pub checks : firstCode (updateChecks s k c (updateNext (s .servers) c (answerBody a)) (updateCollected s k c hashes buffer a) (answerBody a)) ≡ 0
+
+module _ (s : Settings) (k : Kept) (c : Update) (hashes buffer a : List ℕ) where
+  abbrev next : Update
+  next = updateNext (s .servers) c (answerBody a)
+
+  abbrev collected : List ℕ
+  collected = updateCollected s k c hashes buffer a
+
+  abbrev code : ℕ
+  code = firstCode (updateEarly s k c buffer a ++ updateChecks s k c next collected (answerBody a))
+
+  taken : code ≡ 0 → Taken s k c hashes buffer a
+  unfolding updateEarly updateSetup setupChecks answerChecks
+  taken e =
+      let x = setup-passed s k (requestRoom buffer) _ e in
+      let y = check-passes 18 (not (k .opened)) _ (λ z. omega arith) (x .2) in
+      let z = answer-passed (not (updateEnded (s .servers) (k .version) c)) (updateWant (s .servers) (k .version) c) a _ (y .1) in
+      record {
+        range = x .0;
+        room = x .1;
+        shut = not-true (k .opened) (y .0);
+        waiting = not-true _ (z .waiting);
+        shaped = z .shaped;
+        checks = z .rest;
+      }
+
+  -- an answer is refused, or the Update goes on
+  pub by-taken : (P : UpdateLeft → Type 0) → ((code ≡ 0 → ⊥) → P (updateRefused code a k c collected buffer))
+      → (Taken s k c hashes buffer a → P (updateGoes s k next collected buffer)) → P (updateTaken s k c hashes buffer a)
+  unfolding updateTaken
+  by-taken P f g =
+      by-eqb (λ b. P (cond b (updateGoes s k next collected buffer) (updateRefused code a k c collected buffer))) code 0
+      (λ e. g (taken e)) (λ n. f n)
+
+-- the strings that were hashed, the texts that were signed, H's answers
+module _ (s : Settings) (H : ℕ) (named : length (s .log) ≡ 16)
+    (S : List ℕ → Type 0) (G : ℕ → List ℕ → Type 0) (A : List ℕ → List ℕ → Type 0) (free : NoCollision S) where
+  abbrev SignedAt : ℕ → List ℕ → Type 0
+  SignedAt = Histories.SignedAt (s .servers) H (s .log) named S G A free
+
+  -- an Update from version v: p* is within the log and not below v, and after the Record its digest is signed
+  pub record UpdateOk (v : ℕ) (c : Update) : Type 0 where
+    pub small : c .position ≤ 1048576
+    pub above : s .servers ≤ c .asked → v ≤ c .position
+    pub told : s .servers < c .asked → SignedAt (c .position) (c .digest)
+
+  head-small : (n server : ℕ) (body : List ℕ) → headHolds n server body ≡ true → toldPosition body ≤ 1048576
+  unfolding headHolds inLog
+  head-small n server body e =
+      or-cases (eqb (toldPosition body) 0 && eqb (toldLevel body) 0) _ e
+      (λ z. let x = eqb-true (toldPosition body) 0 (and-true (eqb (toldPosition body) 0) _ z .0) in omega arith)
+      (λ z.
+      let x = and-true (inLog (toldPosition body) (toldLevel body)) _ z .0 in
+      let y = and-true (leb 1 (toldPosition body)) _ x .1 in
+      leb-true (toldPosition body) 1048576 (and-true (leb (toldPosition body) 1048576) _ y .0))
+
+  module _ (k : Kept) (c : Update) (hashes buffer a : List ℕ) (t : Taken s k c hashes buffer a) (ok : UpdateOk (k .version) c) where
+    abbrev after : Update
+    after = updateNext (s .servers) c (answerBody a)
+
+    -- after a Status
+    status-small : c .asked < s .servers → after .position ≤ 1048576
+    unfolding updateChecks updateNext statusTaken
+    status-small h =
+        let e = rw (lt-ltb (c .asked) (s .servers) h) at (t .checks) in
+        let x = check-passes 10 (headHolds (s .servers) (c .asked + 1) (answerBody a)) _ (λ z. omega arith) e .0 in
+        let y = head-small (s .servers) (c .asked + 1) (answerBody a) x in
+        let z = ok .small in
+        rw (lt-ltb (c .asked) (s .servers) h)
+        (by-bool (λ b. cond b (toldPosition (answerBody a)) (c .position) ≤ 1048576) (ltb (c .greatest) (toldLabel (answerBody a))) (λ _. y) (λ _. z))
+
+    last-status : c .asked < s .servers → suc (c .asked) ≡ s .servers → k .version ≤ after .position
+    unfolding updateChecks updateNext statusTaken
+    last-status h l =
+        let e = rw (lt-ltb (c .asked) (s .servers) h, eq-eqb (suc (c .asked)) (s .servers) l) at (t .checks) in
+        let x = check-passes 10 (headHolds (s .servers) (c .asked + 1) (answerBody a)) _ (λ z. omega arith) e .1 in
+        let y = check-passes 12 _ _ (λ z. omega arith) x .1 in
+        rw (lt-ltb (c .asked) (s .servers) h) (leb-true (k .version) _ (check-passes 13 _ _ (λ z. omega arith) y .0))
+
+    -- after a Record or a hash of the cover
+    later-position : s .servers ≤ c .asked → after .position ≡ c .position
+    unfolding updateNext
+    later-position h = rw (le-ltb (c .asked) (s .servers) h)
+
+    later-digest : s .servers < c .asked → after .digest ≡ c .digest
+    unfolding updateNext
+    later-digest h = rw (le-ltb (c .asked) (s .servers) (omega arith), ne-eqb (c .asked) (s .servers) (λ e. omega arith))
+
+    pub next-asked : after .asked ≡ suc (c .asked)
+    unfolding updateNext statusTaken
+    next-asked =
+        cases-le (s .servers) (c .asked) (λ h. rw (le-ltb (c .asked) (s .servers) h)) (λ h. rw (lt-ltb (c .asked) (s .servers) h))
+
+    pub next-ok : (c .asked ≡ s .servers → SignedAt (c .position) (after .digest)) → UpdateOk (k .version) after
+    next-ok signs =
+        let n = next-asked in
+        cases-le (s .servers) (c .asked)
+        (λ h.
+        let p = later-position h in
+        record {
+          small = rw p (ok .small);
+          above = λ _. rw p (ok .above h);
+          told = λ _. rw p (cases-eq (c .asked) (s .servers) signs
+              (λ e. let d = later-digest (omega arith) in rw d (ok .told (omega arith))));
+        })
+        (λ h.
+        record {
+          small = status-small h;
+          above = λ i. last-status h (omega arith);
+          told = λ i. absurd (omega arith);
+        })
+
+    abbrev over : List ℕ
+    over = updateCollected s k c hashes buffer a
+
+    -- the end of an Update: p* is 0, and so is the version; or the cover gave both digests
+    pub record Arrived : Type 0 where
+      pub some : 0 < after .position
+      pub small : after .position ≤ 1048576
+      pub above : k .version ≤ after .position
+      pub signed : SignedAt (after .position) (after .digest)
+      pub own : 0 < k .version → value (coverDigest (k .version) (k .version) over) ≡ k .digest
+      pub new : value (coverDigest (k .version) (after .position) over) ≡ after .digest
+
+    last-hash : s .servers < c .asked → updateEnded (s .servers) (k .version) after ≡ true
+        → (coverGivesOwn k over ≡ true) × (coverGivesNew (k .version) after over ≡ true)
+    unfolding updateChecks
+    last-hash h l =
+        let e = rw (le-ltb (c .asked) (s .servers) (omega arith), ne-eqb (c .asked) (s .servers) (λ z. omega arith), l) at (t .checks) in
+        let x = check-passes 15 (coverGivesOwn k over) _ (λ z. omega arith) e in
+        let y = check-passes 16 (coverGivesNew (k .version) after over) _ (λ z. omega arith) (x .1) in
+        (x .0, y .0)
+
+    own-given : coverGivesOwn k over ≡ true → 0 < k .version → value (coverDigest (k .version) (k .version) over) ≡ k .digest
+    unfolding coverGivesOwn
+    own-given e z = eqs-true _ _ (rw (ne-eqb (k .version) 0 (λ q. omega arith)) at e)
+
+    new-given : coverGivesNew (k .version) after over ≡ true → value (coverDigest (k .version) (after .position) over) ≡ after .digest
+    unfolding coverGivesNew
+    new-given e = eqs-true _ _ e
+
+    counted : updateEnded (s .servers) (k .version) after ≡ true → 0 < after .position
+        → s .servers + 1 + length (cover (k .version) (after .position)) ≤ after .asked
+    unfolding updateEnded
+    counted e z =
+        or-cases (eqb (after .asked) (s .servers) && eqb (after .position) 0) _ e
+        (λ q. let x = eqb-true (after .position) 0 (and-true (eqb (after .asked) (s .servers)) _ q .1) in absurd (omega arith))
+        (λ q. leb-true (s .servers + 1 + length (cover (k .version) (after .position))) (after .asked) q)
+
+    pub arrives : UpdateOk (k .version) after → updateEnded (s .servers) (k .version) after ≡ true → 0 < after .position → Arrived
+    arrives n e z =
+        let i = next-asked in
+        let j = counted e z in
+        let h = n .above (omega arith) in
+        let l = last-hash (omega (arith, cover-some (k .version) (after .position) h z)) e in
+        record {
+          some = z;
+          small = n .small;
+          above = h;
+          signed = n .told (omega arith);
+          own = own-given (l .0);
+          new = new-given (l .1);
+        }
