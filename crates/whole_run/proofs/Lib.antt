@@ -2,4 +2,5 @@
 pub mod Histories
 pub mod Passed
 pub mod Updating
+pub mod Requests
 pub mod Views
