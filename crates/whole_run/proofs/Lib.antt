@@ -4,3 +4,9 @@ pub mod Passed
 pub mod Updating
 pub mod Requests
 pub mod Views
+pub mod States
+pub mod UpdateSteps
+pub mod Writing
+pub mod WriteSteps
+pub mod Quiet
+pub mod Heads

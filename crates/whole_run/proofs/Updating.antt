@@ -7,7 +7,7 @@ use native.Mathlib.Omega.{arith}
 use lib.Dec.{eqb, leb, ltb}
 use lib.ListN.{length, drop, length-append}
 use borrow.Author.Tests.{eq-eqb, ne-eqb, eqb-true, leb-true, lt-ltb, le-ltb}
-use Rattle.sha256.specs.Bytes.{eqs, numberAt}
+use Rattle.sha256.specs.Bytes.{eqs, numberAt, written}
 use Rattle.sha256.proofs.Laws.{eqs-true}
 use Rattle.sha256.proofs.Cases.{by-bool}
 use Rattle.tree.specs.Label.{owner}
@@ -20,9 +20,9 @@ use Rattle.tree.proofs.Cases.{and-true, cases-le, cases-eq, by-eqb, positive, n
 use Rattle.tree.proofs.Setup.{check-passes, checked-front, checked-back}
 use Rattle.user.specs.declared.call.Kept.{Kept}
 use Rattle.user.specs.declared.call.Update.{Update}
-use Rattle.user.specs.Asking.{Settings, setupChecks, requestRoom, answerChecks, isAnswer}
+use Rattle.user.specs.Asking.{Settings, setupChecks, requestRoom, asks, answerChecks, isAnswer, done, asking}
 use Rattle.user.specs.Update
-use Rattle.user.specs.Update.{UpdateLeft, updateEnded, updateWant, updateNext, statusTaken, updateChecks, updateEarly, updateSetup, updateCollected, updateGoes, updateRefused, updateTaken, headHolds, toldPosition, toldLevel, toldLabel, coverGivesOwn, coverGivesNew, recordHolds}
+use Rattle.user.specs.Update.{UpdateLeft, updateEnded, updateWant, updateNext, statusTaken, updateChecks, updateEarly, updateSetup, updateCollected, arrived, updateGoes, updateRefused, updateTaken, headHolds, toldPosition, toldLevel, toldLabel, coverGivesOwn, coverGivesNew, recordHolds}
 use Rattle.whole_run.proofs.Passed.{InRange, Answered, setup-passed, answer-passed, or-cases, not-true}
 use Rattle.whole_run.proofs.Histories
 
@@ -109,6 +109,27 @@ module _ (s : Settings) (k : Kept) (c : Update) (hashes buffer a : List ℕ) whe
   by-taken P f g =
       by-eqb (λ b. P (cond b (updateGoes s k next collected buffer) (updateRefused code a k c collected buffer))) code 0
       (λ e. g (taken e)) (λ n. f n)
+
+-- an Update that goes on has had its last answer, or hands out the next request
+abbrev pub endedLeft : Kept → Update → List ℕ → List ℕ → UpdateLeft
+endedLeft k c hashes buffer = record { step = done; kept = arrived k c; call = c; hashes = hashes; request = buffer }
+
+abbrev pub askingLeft : Settings → Kept → Update → List ℕ → List ℕ → UpdateLeft
+askingLeft s k c hashes buffer =
+    record {
+      step = asking (updateWant (s .servers) (k .version) c) [];
+      kept = k;
+      call = c;
+      hashes = hashes;
+      request = written buffer 0 (asks s (updateWant (s .servers) (k .version) c) []);
+    }
+
+pub by-goes : (s : Settings) (k : Kept) (c : Update) (hashes buffer : List ℕ) (P : UpdateLeft → Type 0)
+    → (updateEnded (s .servers) (k .version) c ≡ true → P (endedLeft k c hashes buffer))
+    → (updateEnded (s .servers) (k .version) c ≡ false → P (askingLeft s k c hashes buffer)) → P (updateGoes s k c hashes buffer)
+unfolding updateGoes
+by-goes s k c hashes buffer P f g =
+    by-bool (λ b. P (cond b (endedLeft k c hashes buffer) (askingLeft s k c hashes buffer))) (updateEnded (s .servers) (k .version) c) f g
 
 -- the strings that were hashed, the texts that were signed, H's answers
 module _ (s : Settings) (H : ℕ) (named : length (s .log) ≡ 16)
@@ -223,3 +244,22 @@ module _ (s : Settings) (H : ℕ) (named : length (s .log) ≡ 16)
           own = own-given (l .0);
           new = new-given (l .1);
         }
+
+    -- an Update does not end at the Record: the cover of p* is not empty
+    some-position : c .asked ≡ s .servers → 0 < c .position
+    unfolding updateEnded
+    some-position h =
+        positive (c .position)
+        (λ z.
+        let e : updateEnded (s .servers) (k .version) c ≡ true = rw (eq-eqb (c .asked) (s .servers) h, eq-eqb (c .position) 0 z) in
+        not-both _ e (t .waiting))
+
+    pub record-not-last : updateEnded (s .servers) (k .version) after ≡ true → c .asked ≡ s .servers → ⊥
+    record-not-last e h =
+        let p = later-position (omega arith) in
+        let z = some-position h in
+        let i = next-asked in
+        let j = counted e (omega arith) in
+        let x = cover-some (k .version) (c .position) (ok .above (omega arith)) z in
+        let l : s .servers + 1 + length (cover (k .version) (c .position)) ≤ after .asked = rw p at j in
+        omega arith
