@@ -256,9 +256,9 @@ module _ (s : Settings) (H : ℕ) (named : length (s .log) ≡ 16)
 
     pub record-not-last : updateEnded (s .servers) (k .version) after ≡ true → c .asked ≡ s .servers → ⊥
     record-not-last e h =
-        let p = later-position (omega arith) in
+        let p = later-position (s .servers) c (answerBody a) (omega arith) in
         let z = some-position h in
-        let i = next-asked in
+        let i = next-asked (s .servers) c (answerBody a) in
         let j = counted e (omega arith) in
         let x = cover-some (k .version) (c .position) (ok .above (omega arith)) z in
         let l : s .servers + 1 + length (cover (k .version) (c .position)) ≤ after .asked = rw p at j in

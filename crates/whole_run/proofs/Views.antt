@@ -25,7 +25,7 @@ use Rattle.whole_run.specs.World.{Group, settingsOf, Event, Lent, Call, 
 use Rattle.whole_run.specs.Runs.{Step, user, server, newUser, setup, withUser, withServer, step, run, FairInput, FairStep, Fair}
 use Rattle.whole_run.specs.Claim.{ViewIsVersion}
 use Rattle.whole_run.proofs.Passed.{setup-passed, answer-passed, by-cond}
-use Rattle.whole_run.proofs.Updating.{Above, next-above, by-taken}
+use Rattle.whole_run.proofs.Updating.{Above, next-above, by-taken, by-goes}
 use Rattle.whole_run.proofs.Requests.{sent-kind, sent-position, update-kind, write-kind, reserve-first, body-short, entry-short, room-passed, signature-sized}
 
 -- an Update does not end before its last Status
@@ -61,11 +61,11 @@ went-refused n k c code a hashes buffer z =
 module _ (s : Settings) (named : length (s .log) ≡ 16) where
   went-on : (k : Kept) (c : Update) (hashes buffer : List ℕ) → 2566 ≤ length buffer → Above (s .servers) (k .version) c
       → Went (s .servers) k buffer (updateGoes s k c hashes buffer)
-  unfolding updateGoes done asking sentBy returned
+  unfolding done asking sentBy returned
   went-on k c hashes buffer room r =
       let n = s .servers in
       let v = k .version in
-      by-cond (Went n k buffer) (updateEnded n v c) _ _
+      by-goes s k c hashes buffer (Went n k buffer)
       (λ e. record {
         quiet = omega arith;
         room = λ z. room;

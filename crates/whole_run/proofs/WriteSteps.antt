@@ -49,10 +49,12 @@ only-signed : (s : Settings) (k : Kept) (w : Write) (l : WriteLeft) (a : List �
     → List·Memᴰ (signed b t) (writeEvents s k w l a) → List·Memᴰ (signed b t) (writeSigned s k w l)
 only-signed s k w l a b t m =
     elim (List·Memᴰ·append-cases (openingHashed s (k .version) w l) m) [
-      inl x ↦ absurd (opening-signs-nothing s (k .version) w l b t x)
-    | inr y ↦ elim (List·Memᴰ·append-cases (writeSigned s k w l) y) [
-      inl x ↦ x
-    | inr z ↦ absurd (accepting-signs-nothing s w l a b t z) ] ]
+      | inl x ↦ absurd (opening-signs-nothing s (k .version) w l b t x)
+      | inr y ↦ elim (List·Memᴰ·append-cases (writeSigned s k w l) y) [
+        | inl x ↦ x
+        | inr z ↦ absurd (accepting-signs-nothing s w l a b t z)
+      ]
+    ]
 
 -- a signature is of the user's own digest, and only where the step makes one
 abbrev ownText : Settings → Kept → WriteLeft → List ℕ
