@@ -2,6 +2,8 @@
 pub mod Histories
 pub mod Passed
 pub mod Updating
+pub mod Requests
+pub mod Views
 pub mod States
 pub mod UpdateSteps
 pub mod Writing

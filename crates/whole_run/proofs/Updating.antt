@@ -38,6 +38,36 @@ cover-some v p vp z =
     let n = length-append (tiles 0 v) (tiles v p) in
     cases-le p v (λ h. omega (arith, tiles-some 0 v (omega arith))) (λ h. omega (arith, tiles-some v p h))
 
+-- an Update after an answer; from the last Status on its position stays
+pub next-asked : (n : ℕ) (c : Update) (body : List ℕ) → updateNext n c body .asked ≡ suc (c .asked)
+unfolding updateNext statusTaken
+next-asked n c body = cases-le n (c .asked) (λ h. rw (le-ltb (c .asked) n h)) (λ h. rw (lt-ltb (c .asked) n h))
+
+later-position : (n : ℕ) (c : Update) (body : List ℕ) → n ≤ c .asked → updateNext n c body .position ≡ c .position
+unfolding updateNext
+later-position n c body h = rw (le-ltb (c .asked) n h)
+
+last-status : (s : Settings) (k : Kept) (c next : Update) (hashes body : List ℕ) → firstCode (updateChecks s k c next hashes body) ≡ 0
+    → c .asked < s .servers → next .asked ≡ s .servers → k .version ≤ next .position
+unfolding updateChecks
+last-status s k c next hashes body q h l =
+    let e = rw (lt-ltb (c .asked) (s .servers) h, eq-eqb (next .asked) (s .servers) l) at q in
+    let x = check-passes 10 (headHolds (s .servers) (c .asked + 1) body) _ (λ z. omega arith) e .1 in
+    let y = check-passes 12 _ _ (λ z. omega arith) x .1 in
+    leb-true (k .version) _ (check-passes 13 _ _ (λ z. omega arith) y .0)
+
+-- and is no less than the version
+abbrev pub Above : ℕ → ℕ → Update → Type 0
+Above n v c = n ≤ c .asked → v ≤ c .position
+
+pub next-above : (s : Settings) (k : Kept) (c : Update) (hashes body : List ℕ)
+    → firstCode (updateChecks s k c (updateNext (s .servers) c body) hashes body) ≡ 0
+    → Above (s .servers) (k .version) c → Above (s .servers) (k .version) (updateNext (s .servers) c body)
+next-above s k c hashes body q above i =
+    let n = next-asked (s .servers) c body in
+    cases-le (s .servers) (c .asked) (λ h. let p = later-position (s .servers) c body h in rw p (above h))
+    (λ h. last-status s k c (updateNext (s .servers) c body) hashes body q h (omega arith))
+
 -- what an answer that an Update took with code 0 has passed
 pub record Taken (s : Settings) (k : Kept) (c : Update) (hashes buffer a : List ℕ) : Type 0 where
   pub range : InRange s k
@@ -110,7 +140,7 @@ module _ (s : Settings) (H : ℕ) (named : length (s .log) ≡ 16)
   -- an Update from version v: p* is within the log and not below v, and after the Record its digest is signed
   pub record UpdateOk (v : ℕ) (c : Update) : Type 0 where
     pub small : c .position ≤ 1048576
-    pub above : s .servers ≤ c .asked → v ≤ c .position
+    pub above : Above (s .servers) v c
     pub told : s .servers < c .asked → SignedAt (c .position) (c .digest)
 
   head-small : (n server : ℕ) (body : List ℕ) → headHolds n server body ≡ true → toldPosition body ≤ 1048576
@@ -138,44 +168,28 @@ module _ (s : Settings) (H : ℕ) (named : length (s .log) ≡ 16)
         rw (lt-ltb (c .asked) (s .servers) h)
         (by-bool (λ b. cond b (toldPosition (answerBody a)) (c .position) ≤ 1048576) (ltb (c .greatest) (toldLabel (answerBody a))) (λ _. y) (λ _. z))
 
-    last-status : c .asked < s .servers → suc (c .asked) ≡ s .servers → k .version ≤ after .position
-    unfolding updateChecks updateNext statusTaken
-    last-status h l =
-        let e = rw (lt-ltb (c .asked) (s .servers) h, eq-eqb (suc (c .asked)) (s .servers) l) at (t .checks) in
-        let x = check-passes 10 (headHolds (s .servers) (c .asked + 1) (answerBody a)) _ (λ z. omega arith) e .1 in
-        let y = check-passes 12 _ _ (λ z. omega arith) x .1 in
-        rw (lt-ltb (c .asked) (s .servers) h) (leb-true (k .version) _ (check-passes 13 _ _ (λ z. omega arith) y .0))
-
     -- after a Record or a hash of the cover
-    later-position : s .servers ≤ c .asked → after .position ≡ c .position
-    unfolding updateNext
-    later-position h = rw (le-ltb (c .asked) (s .servers) h)
-
     later-digest : s .servers < c .asked → after .digest ≡ c .digest
     unfolding updateNext
     later-digest h = rw (le-ltb (c .asked) (s .servers) (omega arith), ne-eqb (c .asked) (s .servers) (λ e. omega arith))
 
-    pub next-asked : after .asked ≡ suc (c .asked)
-    unfolding updateNext statusTaken
-    next-asked =
-        cases-le (s .servers) (c .asked) (λ h. rw (le-ltb (c .asked) (s .servers) h)) (λ h. rw (lt-ltb (c .asked) (s .servers) h))
-
     pub next-ok : (c .asked ≡ s .servers → SignedAt (c .position) (after .digest)) → UpdateOk (k .version) after
     next-ok signs =
-        let n = next-asked in
+        let n = next-asked (s .servers) c (answerBody a) in
+        let up = next-above s k c (updateCollected s k c hashes buffer a) (answerBody a) (t .checks) (ok .above) in
         cases-le (s .servers) (c .asked)
         (λ h.
-        let p = later-position h in
+        let p = later-position (s .servers) c (answerBody a) h in
         record {
           small = rw p (ok .small);
-          above = λ _. rw p (ok .above h);
+          above = up;
           told = λ _. rw p (cases-eq (c .asked) (s .servers) signs
               (λ e. let d = later-digest (omega arith) in rw d (ok .told (omega arith))));
         })
         (λ h.
         record {
           small = status-small h;
-          above = λ i. last-status h (omega arith);
+          above = up;
           told = λ i. absurd (omega arith);
         })
 
@@ -218,7 +232,7 @@ module _ (s : Settings) (H : ℕ) (named : length (s .log) ≡ 16)
 
     pub arrives : UpdateOk (k .version) after → updateEnded (s .servers) (k .version) after ≡ true → 0 < after .position → Arrived
     arrives n e z =
-        let i = next-asked in
+        let i = next-asked (s .servers) c (answerBody a) in
         let j = counted e z in
         let h = n .above (omega arith) in
         let l = last-hash (omega (arith, cover-some (k .version) (after .position) h z)) e in
@@ -242,9 +256,9 @@ module _ (s : Settings) (H : ℕ) (named : length (s .log) ≡ 16)
 
     pub record-not-last : updateEnded (s .servers) (k .version) after ≡ true → c .asked ≡ s .servers → ⊥
     record-not-last e h =
-        let p = later-position (omega arith) in
+        let p = later-position (s .servers) c (answerBody a) (omega arith) in
         let z = some-position h in
-        let i = next-asked in
+        let i = next-asked (s .servers) c (answerBody a) in
         let j = counted e (omega arith) in
         let x = cover-some (k .version) (c .position) (ok .above (omega arith)) z in
         let l : s .servers + 1 + length (cover (k .version) (c .position)) ≤ after .asked = rw p at j in

@@ -1,0 +1,108 @@
+-- The requests that a user hands out: their kind and position read back, and that each fits the request buffer.
+use mathlib.Core.Path.{_≡_, _∙_, sym, ap}
+use mathlib.Core.Bool.{true, not, _||_}
+use mathlib.Core.List.{List}
+use Prim.Native.Nat.{ℕ, _+_, _%_, _≤_, _<_}
+use native.Mathlib.Omega.{arith}
+use lib.Dec.{eqb, leb, ltb}
+use lib.ListN.{length, take, length-append, length-take}
+use borrow.Author.Tests.{leb-true, ltb-true, le-leb}
+use Rattle.sha256.specs.Bytes.{written}
+use Rattle.sha256.proofs.Laws.{be-mod}
+use Rattle.lms.specs.Types.{LMOTS_SHA256_N32_W4, LMS_SHA256_M32_H10}
+use Rattle.lms.specs.Tree.{treeSize}
+use Rattle.lms.specs.Signature.{signatureSize}
+use Rattle.lms.specs.Claims.{SignatureLength}
+use Rattle.lms.proofs.RoundTrip.{signature-length}
+use Rattle.tree.specs.Level.{lg}
+use Rattle.tree.specs.Cover.{piece}
+use Rattle.tree.specs.Message.{request, requestHeader, requestKind, requestPosition}
+use Rattle.tree.proofs.Cases.{and-true}
+use Rattle.tree.proofs.Messages.{be-one, request-position}
+use Rattle.tree.proofs.Pieces.{piece-length}
+use Rattle.user.specs.declared.call.Kept.{Kept}
+use Rattle.user.specs.declared.call.Update.{Update}
+use Rattle.user.specs.declared.call.Write.{Write}
+use Rattle.user.specs.Asking.{Settings, requestRoom, Want, ofNode, ofStatus, asks}
+use Rattle.user.specs.Update.{updateWant}
+use Rattle.user.specs.Write.{WriteLent, entryFits, commitNumber, pathDigest, writeKind, writeLevel, writeBody, heldEntry, writeRoom, signsNext, writeSignature}
+use Rattle.whole_run.proofs.Passed.{by-cond, sent-is}
+
+-- a request's kind and position, read back; its other fields may be of any size
+asks-kind : (s : Settings) (w : Want) (body : List ℕ) → w .kind < 256 → requestKind (asks s w body) ≡ w .kind
+unfolding asks request requestHeader
+asks-kind s w body h = rw (be-one (w .kind) h)
+
+fields-wrap : (kind author p l : ℕ) (log body : List ℕ)
+    → request (kind % 256) log (author % 65536) p (l % 256) body ≡ request kind log author p l body
+unfolding request requestHeader
+fields-wrap kind author p l log body = rw (be-mod 1 kind, be-mod 2 author, be-mod 1 l)
+
+asks-position : (s : Settings) (w : Want) (body : List ℕ) → length (s .log) ≡ 16 → w .position < 4294967296
+    → requestPosition (asks s w body) ≡ w .position
+unfolding asks
+asks-position s w body named h =
+    ap (λ (q : List ℕ). requestPosition q) (sym (fields-wrap (w .kind) (s .own) (w .position) (w .level) (s .log) body))
+    ∙ request-position (w .kind % 256) (s .log) (s .own % 65536) (w .position) (w .level % 256) body (omega arith) named (omega arith) h (omega arith)
+
+-- the same of the bytes that are handed out
+pub sent-kind : (s : Settings) (w : Want) (body buffer : List ℕ) → length (s .log) ≡ 16 → 26 + length body ≤ length buffer → w .kind < 256
+    → requestKind (take (26 + length body) (written buffer 0 (asks s w body))) ≡ w .kind
+sent-kind s w body buffer named room h = ap (λ (q : List ℕ). requestKind q) (sent-is s w body buffer named room) ∙ asks-kind s w body h
+
+pub sent-position : (s : Settings) (w : Want) (body buffer : List ℕ) → length (s .log) ≡ 16 → 26 + length body ≤ length buffer
+    → w .position < 4294967296 → requestPosition (take (26 + length body) (written buffer 0 (asks s w body))) ≡ w .position
+sent-position s w body buffer named room h =
+    ap (λ (q : List ℕ). requestPosition q) (sent-is s w body buffer named room) ∙ asks-position s w body named h
+
+-- an Update asks for a Status, a Record or a node
+pub update-kind : (n v : ℕ) (c : Update) → updateWant n v c .kind < 5
+unfolding updateWant ofStatus ofNode
+update-kind n v c =
+    by-cond (λ (w : Want). w .kind < 5) (ltb (c .asked) n) _ _ (λ e. omega arith)
+    (λ e. by-cond (λ (w : Want). w .kind < 5) (eqb (c .asked) n) _ _ (λ d. omega arith) (λ d. omega arith))
+
+-- the kinds of a write's requests, the first of them a Reserve
+pub write-kind : (p j : ℕ) → writeKind p j < 256
+unfolding writeKind
+write-kind p j =
+    by-cond (λ k. k < 256) (leb j (lg p)) 5 _ (λ e. omega arith)
+    (λ e. by-cond (λ k. k < 256) (eqb j (lg p + 1)) 6 _ (λ d. omega arith)
+    (λ d. by-cond (λ k. k < 256) (ltb j (commitNumber p)) 7 8 (λ c. omega arith) (λ c. omega arith)))
+
+pub reserve-first : (p : ℕ) → writeKind p 0 ≡ 5
+unfolding writeKind
+reserve-first p = rw (le-leb 0 (lg p) (omega arith))
+
+-- every request of a write fits 2,566 bytes: its body is at most a digest and a signature
+pub body-short : (p j : ℕ) (w : Write) (o : WriteLent) → w .length ≤ 1024 → length (o .signature) ≡ 2508
+    → length (writeBody p j (o .path) (heldEntry w (o .held)) (o .signature)) ≤ 2540
+unfolding writeBody pathDigest heldEntry
+body-short p j w o short z =
+    by-cond (λ (q : List ℕ). length q ≤ 2540) (leb j (lg p)) _ _ (λ e. omega (arith, piece-length (o .path) (lg p)))
+    (λ e. by-cond (λ (q : List ℕ). length q ≤ 2540) (eqb j (lg p + 1)) _ _ (λ d. omega (arith, length-take (w .length) (o .held)))
+    (λ d. by-cond (λ (q : List ℕ). length q ≤ 2540) (ltb j (commitNumber p)) _ _ (λ c. omega (arith, piece-length (o .path) (writeLevel p j)))
+    (λ c. omega (arith, length-append (piece (o .path) (lg p)) (o .signature), piece-length (o .path) (lg p)))))
+
+pub entry-short : (entry : List ℕ) → entryFits entry ≡ true → length entry ≤ 1024
+unfolding entryFits
+entry-short entry e =
+    leb-true (length entry) 1024 (and-true (leb (length entry) 1024) _ (and-true (leb 1 (length entry)) _ e .1) .0)
+
+pub room-passed : (tree buffer : List ℕ) → writeRoom tree buffer ≡ true → (2566 ≤ length buffer) × (65504 ≤ length tree)
+unfolding writeRoom requestRoom
+room-passed tree buffer e =
+    let x = and-true (requestRoom buffer) (leb 65504 (length tree)) e in
+    (leb-true 2566 (length buffer) (x .0), leb-true 65504 (length tree) (x .1))
+
+-- the signature that is kept or made has 2,508 bytes: 17 leaves it a number, 21 a tree
+pub signature-sized : (s : Settings) (k : Kept) (w : Write) (o : WriteLent) (tree : List ℕ) → length (o .signature) ≡ 2508
+    → length (w .randomizer) ≡ 32 → 65504 ≤ length tree → not (signsNext k w) || ltb (k .number) 1024 ≡ true
+    → length (writeSignature s k w o tree) ≡ 2508
+unfolding writeSignature SignatureLength signatureSize treeSize
+signature-sized s k w o tree z random long free =
+    by-cond (λ (q : List ℕ). length q ≡ 2508) (signsNext k w) _ _
+    (λ e.
+    let f = ltb-true (k .number) 1024 (rw e at free) in
+    signature-length LMOTS_SHA256_N32_W4 LMS_SHA256_M32_H10 (s .id) (s .seed) (w .randomizer) _ tree (k .number) random f long)
+    (λ e. z)
