@@ -13,3 +13,5 @@ pub mod WriteStart
 pub mod ReadSteps
 pub mod Quiet
 pub mod Heads
+pub mod Steps
+pub mod Fork

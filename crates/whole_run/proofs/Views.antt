@@ -284,7 +284,7 @@ holds-new n = record { seen = refl; sized = length-replicate {A = ℕ} 2508 0; c
 -- after every list of fair steps
 all-hold : (g : Group) → length (g .log) ≡ 16 → (store : List ℕ) (xs : List Step) → Fair g store xs → (a : ℕ)
     → Holds (g .servers) (run g store xs .users a)
-unfolding run setup step withUser withServer Fair FairStep settingsOf
+unfolding run setup step withUser withServer Fair FairStep
 all-hold g named store [] f a = holds-new (g .servers)
 all-hold g named store (user b i ∷ xs) f a =
     let w = run g store xs in
