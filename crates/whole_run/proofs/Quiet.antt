@@ -86,7 +86,7 @@ module _ (s : Settings) where
   unfolding userStep
   user-quiet u (startUpdate m) = quiet-none
   user-quiet u (startWrite m entry randomizer) =
-      let l = writeStarted s (u .kept) (writeLent u m) entry randomizer (m .tree) in
+      let l = writeStarted s (u .kept) (writeLent u m) entry randomizer (m .key) in
       quiet-by (u .kept .opened && eqb (l .step .code) 0) _ (λ e. rw e (quiet-hashed _)) (λ e. rw e quiet-none)
   user-quiet u (startRead m i) = quiet-none
   user-quiet u (answer a) = taking-quiet u a (u .call)

@@ -25,7 +25,7 @@ use Rattle.user.specs.declared.call.Update.{Update}
 use Rattle.user.specs.declared.call.Write.{Write}
 use Rattle.user.specs.Asking.{Settings, requestRoom, Want, ofNode, ofStatus, asks}
 use Rattle.user.specs.Update.{updateWant}
-use Rattle.user.specs.Write.{WriteLent, entryFits, commitNumber, pathDigest, writeKind, writeLevel, writeBody, heldEntry, writeRoom, signsNext, writeSignature}
+use Rattle.user.specs.Write.{Key, WriteLent, entryFits, commitNumber, pathDigest, writeKind, writeLevel, writeBody, heldEntry, writeRoom, signsNext, writeSignature}
 use Rattle.whole_run.proofs.Passed.{by-cond, sent-is}
 
 -- a request's kind and position, read back; its other fields may be of any size
@@ -89,20 +89,20 @@ unfolding entryFits
 entry-short entry e =
     leb-true (length entry) 1024 (and-true (leb (length entry) 1024) _ (and-true (leb 1 (length entry)) _ e .1) .0)
 
-pub room-passed : (tree buffer : List ℕ) → writeRoom tree buffer ≡ true → (2566 ≤ length buffer) × (65504 ≤ length tree)
+pub room-passed : (key : Key) (buffer : List ℕ) → writeRoom key buffer ≡ true → (2566 ≤ length buffer) × (65504 ≤ length (key .tree))
 unfolding writeRoom requestRoom
-room-passed tree buffer e =
-    let x = and-true (requestRoom buffer) (leb 65504 (length tree)) e in
-    (leb-true 2566 (length buffer) (x .0), leb-true 65504 (length tree) (x .1))
+room-passed key buffer e =
+    let x = and-true (requestRoom buffer) (leb 65504 (length (key .tree))) e in
+    (leb-true 2566 (length buffer) (x .0), leb-true 65504 (length (key .tree)) (x .1))
 
 -- the signature that is kept or made has 2,508 bytes: 17 leaves it a number, 21 a tree
-pub signature-sized : (s : Settings) (k : Kept) (w : Write) (o : WriteLent) (tree : List ℕ) → length (o .signature) ≡ 2508
-    → length (w .randomizer) ≡ 32 → 65504 ≤ length tree → not (signsNext k w) || ltb (k .number) 1024 ≡ true
-    → length (writeSignature s k w o tree) ≡ 2508
+pub signature-sized : (s : Settings) (k : Kept) (w : Write) (o : WriteLent) (key : Key) → length (o .signature) ≡ 2508
+    → length (w .randomizer) ≡ 32 → 65504 ≤ length (key .tree) → not (signsNext k w) || ltb (k .number) 1024 ≡ true
+    → length (writeSignature s k w o key) ≡ 2508
 unfolding writeSignature SignatureLength signatureSize treeSize
-signature-sized s k w o tree z random long free =
+signature-sized s k w o key z random long free =
     by-cond (λ (q : List ℕ). length q ≡ 2508) (signsNext k w) _ _
     (λ e.
     let f = ltb-true (k .number) 1024 (rw e at free) in
-    signature-length LMOTS_SHA256_N32_W4 LMS_SHA256_M32_H10 (s .id) (s .seed) (w .randomizer) _ tree (k .number) random f long)
+    signature-length LMOTS_SHA256_N32_W4 LMS_SHA256_M32_H10 (key .id) (key .seed) (w .randomizer) _ (key .tree) (k .number) random f long)
     (λ e. z)

@@ -38,13 +38,13 @@ module _ (s : Settings) (H : ℕ) (named : length (s .log) ≡ 16)
 
   write-taken-ok : (u : User) (a : List ℕ) (w : Write) → UserOk u → States.WriteOk s H named S G A free (u .kept) (u .path) (u .sent) w
       → (u .sent .server ≡ H → A (u .sent .bytes) a)
-      → Keeps (written u w a (writeTaken s (u .kept) w (writeLent u (u .lent)) (u .lent .tree) a))
+      → Keeps (written u w a (writeTaken s (u .kept) w (writeLent u (u .lent)) (u .lent .key) a))
   unfolding writeTaken
   write-taken-ok u a w i k fair =
       by-bool
       (λ b.
       Keeps (written u w a
-      (cond b (writeGoes s (u .kept) w (writeLent u (u .lent)) (u .lent .tree) a) (writeUpdates s (u .kept) w (writeLent u (u .lent)) a))))
+      (cond b (writeGoes s (u .kept) w (writeLent u (u .lent)) (u .lent .key) a) (writeUpdates s (u .kept) w (writeLent u (u .lent)) a))))
       (w .opened) (λ o. write-goes-ok s H named S G A free u (u .lent) (i .state) w a o (k .goes o) fair)
       (λ c. write-updates-ok s H named S G A free u (u .lent) (i .state) w a c (k .waits c))
 

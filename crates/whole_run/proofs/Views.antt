@@ -184,19 +184,19 @@ module _ (s : Settings) (named : length (s .log) ≡ 16) (u : User) (h : Holds (
 
   -- a Write starts
   holds-started : (m : Lent) (entry randomizer : List ℕ) → length randomizer ≡ 32
-      → Keeps m (writeStarted s (u .kept) (writeLent u m) entry randomizer (m .tree))
+      → Keeps m (writeStarted s (u .kept) (writeLent u m) entry randomizer (m .key))
   unfolding writeStarted writeStartChecks setupChecks freshWrite
   holds-started m entry randomizer random =
       let k = u .kept in
-      let code = firstCode (writeStartChecks s k (u .path) entry (m .tree) (m .request)) in
+      let code = firstCode (writeStartChecks s k (u .path) entry (m .key) (m .request)) in
       let w = freshWrite k entry randomizer in
       let o = withHeld (writeLent u m) (written (m .held) 0 entry) in
       by-cond (Keeps m) (eqb code 0) _ _
       (λ e.
-      let first = setup-passed s k (writeRoom (m .tree) (m .request)) _ (eqb-true code 0 e) in
+      let first = setup-passed s k (writeRoom (m .key) (m .request)) _ (eqb-true code 0 e) in
       let same = check-passes 18 _ _ (λ z. omega arith) (first .2) in
       let short = entry-short entry (check-passes 19 _ _ (λ z. omega arith) (same .1) .0) in
-      let room = room-passed (m .tree) (m .request) (first .1) .0 in
+      let room = room-passed (m .key) (m .request) (first .1) .0 in
       by-cond (Keeps m) (k .opened) _ _
       (λ d. holds-asking s named u m k w o (h .sized) room short random d (first .0 .version) (λ i. h .seen))
       (λ d. holds-waiting (s .servers) u m w o _ h (h .sized) short random d
@@ -205,21 +205,21 @@ module _ (s : Settings) (named : length (s .log) ≡ 16) (u : User) (h : Holds (
 
   -- an answer taken in by an open write
   holds-goes : (m : Lent) (w : Write) (a : List ℕ) → CallHolds (s .servers) u (writing w) → w .opened ≡ true
-      → Keeps m (writeGoes s (u .kept) w (writeLent u m) (m .tree) a)
+      → Keeps m (writeGoes s (u .kept) w (writeLent u m) (m .key) a)
   unfolding afterWrite writeGoes writeChecks done committed signing sentBy returned viewSent
   holds-goes m w a c opened =
       let k = u .kept in
       let o = writeLent u m in
-      let code = firstCode (writeChecks s k w o (m .tree) a) in
+      let code = firstCode (writeChecks s k w o (m .key) a) in
       by-cond (Keeps m) (eqb code 0) _ _
       (λ e.
-      let first = setup-passed s k (writeRoom (m .tree) (m .request)) _ (eqb-true code 0 e) in
+      let first = setup-passed s k (writeRoom (m .key) (m .request)) _ (eqb-true code 0 e) in
       let number = check-passes 17 _ _ (λ z. omega arith) (answer-passed _ _ a _ (first .2) .rest) in
-      let room = room-passed (m .tree) (m .request) (first .1) in
+      let room = room-passed (m .key) (m .request) (first .1) in
       by-cond (Keeps m) (eqb (w .asked) (commitNumber (suc (k .version)))) _ _
       (λ d. record { seen = c .2 opened; sized = h .sized; calling = tt })
-      (λ d. holds-asking s named u m (signing k w) (openedAt w (suc (w .asked))) (withSignature o (writeSignature s k w o (m .tree)))
-      (signature-sized s k w o (m .tree) (h .sized) (c .1) (room .1) (number .0)) (room .0) (c .0) (c .1) refl (first .0 .version) (λ i. h .seen)))
+      (λ d. holds-asking s named u m (signing k w) (openedAt w (suc (w .asked))) (withSignature o (writeSignature s k w o (m .key)))
+      (signature-sized s k w o (m .key) (h .sized) (c .1) (room .1) (number .0)) (room .0) (c .0) (c .1) refl (first .0 .version) (λ i. h .seen)))
       (λ e. holds-refused (s .servers) u m code a w o h (h .sized) (eqb-false code 0 e))
 
   -- a Read leaves what is kept and the view

@@ -90,15 +90,15 @@ module _ (s : Settings) (H : ℕ) (named : length (s .log) ≡ 16)
         (λ _. ended-ok _ refl refl refl) (λ _. first-ok c two)
 
     abbrev code : ℕ
-    code = firstCode (writeStartChecks s (u .kept) (u .path) entry (m .tree) (m .request))
+    code = firstCode (writeStartChecks s (u .kept) (u .path) entry (m .key) (m .request))
 
     room-passed : code ≡ 0 → (2 ≤ s .servers) × (requestRoom (m .request) ≡ true)
     unfolding writeStartChecks writeRoom
     room-passed e =
-        let x = setup-passed s (u .kept) (writeRoom (m .tree) (m .request)) _ e in
+        let x = setup-passed s (u .kept) (writeRoom (m .key) (m .request)) _ e in
         (x .0 .two, and-true (requestRoom (m .request)) _ (x .1) .0)
 
-    pub write-started-ok : Good (started (writeStarted s (u .kept) (writeLent u m) entry randomizer (m .tree)))
+    pub write-started-ok : Good (started (writeStarted s (u .kept) (writeLent u m) entry randomizer (m .key)))
     unfolding writeStarted writeRefused refused
     write-started-ok =
         by-eqb

@@ -191,7 +191,7 @@ module _ (s : Settings) (H : ℕ) (named : length (s .log) ≡ 16)
 
       -- the next request goes out
       abbrev nextLeft : WriteLeft
-      nextLeft = writeAsks s (signing (u .kept) w) (openedAt w (suc (w .asked))) (withSignature lent (writeSignature s (u .kept) w lent (m .tree)))
+      nextLeft = writeAsks s (signing (u .kept) w) (openedAt w (suc (w .asked))) (withSignature lent (writeSignature s (u .kept) w lent (m .key)))
 
       signs-now : signsNext (u .kept) w ≡ true → Noted (outcome w a nextLeft .events) → G (s .own) (signedText (s .log) p δ)
       unfolding writeSigned writeAsks asking
@@ -233,7 +233,7 @@ module _ (s : Settings) (H : ℕ) (named : length (s .log) ≡ 16)
                 goes = λ _. record {
                   took = took-now;
                   signs = λ h. signed-then h ne;
-                  asks = λ h. reserve-sent s (signing (u .kept) w) (openedAt w (suc (w .asked))) (withSignature lent (writeSignature s (u .kept) w lent (m .tree))) named (g .room) h;
+                  asks = λ h. reserve-sent s (signing (u .kept) w) (openedAt w (suc (w .asked))) (withSignature lent (writeSignature s (u .kept) w lent (m .key))) named (g .room) h;
                 };
               };
             };
@@ -264,8 +264,8 @@ module _ (s : Settings) (H : ℕ) (named : length (s .log) ≡ 16)
     pub write-goes-ok : (w : Write) (a : List ℕ) → w .opened ≡ true
         → GoesOk (suc (u .kept .version)) (pathDigest (suc (u .kept .version)) (u .path)) (u .kept .signed) (u .sent) (w .asked)
         → (u .sent .server ≡ H → A (u .sent .bytes) a)
-        → Noted (outcome w a (writeGoes s (u .kept) w (writeLent u m) (m .tree) a) .events)
-        → Good (outcome w a (writeGoes s (u .kept) w (writeLent u m) (m .tree) a))
+        → Noted (outcome w a (writeGoes s (u .kept) w (writeLent u m) (m .key) a) .events)
+        → Good (outcome w a (writeGoes s (u .kept) w (writeLent u m) (m .key) a))
     write-goes-ok w a o ok fair =
-        by-going s (u .kept) w (writeLent u m) (m .tree) a (λ l. Noted (outcome w a l .events) → Good (outcome w a l))
+        by-going s (u .kept) w (writeLent u m) (m .key) a (λ l. Noted (outcome w a l .events) → Good (outcome w a l))
         (λ z n. refused-ok w a _ o z) (λ g e n. committed-ok w a ok fair o g e) (λ g e n. next-ok w a ok fair o g e n)
