@@ -70,6 +70,26 @@ uint32_t kozbrax_digest(const uint8_t *leaves, size_t leaves_len, uint8_t *out, 
    Returns 0, or 21 where the lengths differ. Leaves, on 21: standing as it was. */
 uint32_t kozbrax_board(const uint32_t *targets, size_t targets_len, uint32_t *standing, size_t standing_len);
 
+/* What a call of the server gives: its code, the length of the answer (0 where none is written), and the store's used length after it. */
+typedef struct {
+  uint32_t code;
+  uint32_t answer;
+  uint64_t used;
+} kozbrax_served;
+
+/* One call of the server numbered own, of `servers`: takes in a request of any bytes.
+   log has 16 bytes; users are the users' public keys of 56 bytes each, in the order of their numbers.
+   head has 39 bytes: the position (4 bytes from 0 on), its level (1, at 4), its author (2, at 5) and its digest (32, at 7), all big-endian and all
+   zero at first. store is the store, of which the first `used` bytes are records; at first none. The caller keeps head, store and
+   `used` from call to call.
+   Returns the code 0 to 9 that the answer carries; or 22 where `servers`, own, users, head or the used part is out of range, else 21 where
+   answer_len is below 2,552, and then answer is 0.
+   Leaves, on 0: head, the store and its used length as the request asks, and the answer in the first bytes of answer. On 1 to 9: head and
+   the store as they were, and the answer. On 21 and 22: all as it was. The bytes past the answer and past the used part stay as they were. */
+kozbrax_served kozbrax_server(uint32_t servers, uint32_t own, const uint8_t *log, const uint8_t *users, size_t users_len, uint8_t *head,
+                              uint8_t *store, size_t store_len, uint64_t used, const uint8_t *request, size_t request_len,
+                              uint8_t *answer, size_t answer_len);
+
 #ifdef __cplusplus
 }
 #endif
