@@ -77,15 +77,13 @@ typedef struct {
   uint64_t used;
 } kozbrax_served;
 
-/* One call of the server numbered own, of `servers`: takes in a request of any bytes.
-   log has 16 bytes; users are the users' public keys of 56 bytes each, in the order of their numbers.
-   head has 39 bytes: the position (4 bytes from 0 on), its level (1, at 4), its author (2, at 5) and its digest (32, at 7), all big-endian and all
-   zero at first. store is the store, of which the first `used` bytes are records; at first none. The caller keeps head, store and
-   `used` from call to call.
-   Returns the code 0 to 9 that the answer carries; or 22 where `servers`, own, users, head or the used part is out of range, else 21 where
-   answer_len is below 2,552, and then answer is 0.
-   Leaves, on 0: head, the store and its used length as the request asks, and the answer in the first bytes of answer. On 1 to 9: head and
-   the store as they were, and the answer. On 21 and 22: all as it was. The bytes past the answer and past the used part stay as they were. */
+/* One call of server own, of `servers`: takes in a request of any bytes. log has 16 bytes; users are the users' public keys, 56 bytes each.
+   head has 39 bytes, big-endian: p (4 bytes at 0), l (1 at 4), author (2 at 5), digest (32 at 7); all zero at first. The first `used`
+   bytes of store are its records; at first there are none. The caller keeps head, store and `used` from call to call.
+   Returns the code: 22 where `servers` is not 2 to 16, own not 1 to `servers`, users_len not 56 to 3,584 in steps of 56, the head out
+   of range or the used part not whole stored records; else 21 where answer_len is below 2,552; else 0 to 9, as the answer says.
+   Leaves, on 0: the request's effect on head or on store and `used`, and the answer in the first bytes. On 1 to 9: the answer, and head
+   and store as they were. On 21 and 22: everything as it was. The bytes past the answer, and past the used part, stay as they were. */
 kozbrax_served kozbrax_server(uint32_t servers, uint32_t own, const uint8_t *log, const uint8_t *users, size_t users_len, uint8_t *head,
                               uint8_t *store, size_t store_len, uint64_t used, const uint8_t *request, size_t request_len,
                               uint8_t *answer, size_t answer_len);

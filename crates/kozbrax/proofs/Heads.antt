@@ -1,15 +1,18 @@
 -- The server's call over the head's 39 bytes.
-use mathlib.Core.Path.{_≡_, refl, _∙_, sym, ap}
+use mathlib.Core.Path.{_≡_, refl, _∙_, sym, ap, ap₂}
 use mathlib.Core.Bool.{true, false, _&&_}
 use mathlib.Core.List.{List, _∷_, _++_, append-assoc}
-use Prim.Native.Nat.{ℕ, _%_, _≤_, _<_, min}
+use Prim.Native.Nat.{ℕ, zero, suc, _+_, _*_, _/_, _%_, _^_, _≤_, _<_, min}
+use native.Mathlib.Nat.{add-zero, pow-suc, mul-le-mul-right}
 use native.Mathlib.Omega.{arith}
+use lib.Arith.{digits-div, digits-mod}
 use lib.Dec.{eqb, leb}
 use lib.ListN.{length, drop, getD, replicate, length-append, length-drop, length-replicate}
-use lib.Seq.{take-all}
+use lib.Seq.{take-all, drop-cons}
 use borrow.Author.Tests.{eq-eqb, ne-eqb, leb-true}
 use Rattle.sha256.specs.Bytes.{be, numberAt, written}
-use Rattle.sha256.proofs.Laws.{be-length}
+use Rattle.sha256.proofs.Laws.{be-length, be-mod, number-be}
+use Rattle.sha256.proofs.Numbers.{be-two, be-four, number-two}
 use Rattle.sha256.proofs.Window.{elements}
 use Rattle.lms.proofs.Writing.{written-whole}
 use Rattle.tree.specs.Cover.{piece}
@@ -45,6 +48,60 @@ head-laid h p a out ld hl ep ea eo =
     simp length-append (omega (arith, be-length 4 (h .position), be-length 1 (h .level), be-length 2 (h .author))) in
     eo ∙ ap (written (replicate 39 0) 0) parts
     ∙ written-whole (replicate 39 0) (be 4 (h .position) ++ (be 1 (h .level) ++ (be 2 (h .author) ++ h .digest))) (omega (arith, length-replicate {A = ℕ} 39 0))
+
+-- The bytes of a head, written out.
+head-elements : (h : Head) → h .level < 256
+    → headBytes h ≡ h .position / 16777216 % 256 ∷ h .position / 65536 % 256 ∷ h .position / 256 % 256 ∷ h .position % 256
+    ∷ h .level ∷ h .author / 256 % 256 ∷ h .author % 256 ∷ h .digest
+unfolding headBytes
+head-elements h l = rw (be-four (h .position), be-one (h .level) l, be-two (h .author))
+
+position-first : (h : Head) → h .position < 4294967296 → numberAt 4 (headBytes h) 0 ≡ h .position
+unfolding headBytes
+position-first h b = number-be 4 (h .position) (be 1 (h .level) ++ (be 2 (h .author) ++ h .digest)) b
+
+-- A head that a call leaves is the head that the next call reads.
+pub decode-encode : (h : Head) → h .position < 4294967296 → h .level < 256 → h .author < 65536 → headOf (headBytes h) ≡ h
+unfolding headOf
+decode-encode h hp hl ha =
+    let e = head-elements h hl in
+    let author : numberAt 2 (headBytes h) 5 ≡ h .author = number-two (headBytes h) 5 ∙ rw e (omega arith) in
+    let level : getD (headBytes h) 4 0 ≡ h .level = ap (λ (s : List ℕ). getD s 4 0) e in
+    let digest : drop 7 (headBytes h) ≡ h .digest = ap (drop 7) e in
+    rw (position-first h hp, level, author, digest)
+
+-- the bytes of the number that bytes stand for are those bytes
+module _ (b : List ℕ) (bytes : (i : ℕ) → getD b i 0 < 256) where
+  number-below : (k i : ℕ) → numberAt k b i < 256 ^ k
+  unfolding numberAt
+  number-below zero i = omega arith
+  number-below (suc k) i =
+      let m : getD b i 0 * 256 ^ k ≤ 255 * 256 ^ k = mul-le-mul-right (256 ^ k) (omega (arith, bytes i)) in
+      omega (arith, pow-suc 256 k, number-below k (suc i))
+
+  be-number : (k i : ℕ) → be k (numberAt k b i) ≡ elements b i k
+  unfolding be numberAt
+  be-number zero i = refl
+  be-number (suc k) i =
+      let low = number-below k (suc i) in
+      let x : ℕ = getD b i 0 in
+      let high : (x * 256 ^ k + numberAt k b (suc i)) / 256 ^ k % 256 ≡ x = rw (digits-div x low) (omega (arith, bytes i)) in
+      let rest : be k (x * 256 ^ k + numberAt k b (suc i)) ≡ elements b (suc i) k =
+      sym (be-mod k (x * 256 ^ k + numberAt k b (suc i))) ∙ ap (be k) (digits-mod x low) ∙ be-number k (suc i) in
+      ap₂ (λ (y : ℕ) (l : List ℕ). y ∷ l) high rest
+
+  elements-rest : (n i : ℕ) → i + n ≤ length b → elements b i n ++ drop (i + n) b ≡ drop i b
+  elements-rest zero i h = rw add-zero
+  elements-rest (suc n) i h =
+      let e : i + suc n ≡ suc i + n = omega arith in
+      rw e (ap (λ (l : List ℕ). getD b i 0 ∷ l) (elements-rest n (suc i) (omega arith)) ∙ sym (drop-cons b i 0 (omega arith)))
+
+  -- A call that is accepted and leaves the head leaves its bytes.
+  pub encode-decode : length b ≡ 39 → headBytes (headOf b) ≡ b
+  unfolding headBytes headOf
+  encode-decode l =
+      let level : be 1 (getD b 4 0) ≡ elements b 4 1 = be-one (getD b 4 0) (bytes 4) in
+      rw (be-number 4 0, level, be-number 2 5) (elements-rest 7 0 (omega arith))
 
 -- what settings that fit say of the two numbers
 numbers-fit : (servers own : ℕ) (users : List ℕ) → settingsFit servers own users ≡ true → (servers ≤ 16) × (own ≤ servers)
