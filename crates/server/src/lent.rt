@@ -1,21 +1,17 @@
 // The head as the record that document 01 lends to the server.
 ghost use mathlib.Core.Path.{_≡_};
 ghost use Rattle.server.specs.Checks.{settings};
-ghost use Rattle.server.specs.Serve.{headAfter, served};
+ghost use Rattle.server.specs.Serve.{served, replyOf};
 use super::Head;
-use super::Out;
-use super::effect;
 
-// Changes the lent head as a request with this code does: the rule by value, on what the head holds.
-pub fn settle(head: &mut Head, request: &[u8], code: u8)
-    ensures { λ _. ⌜ now (head .exit) ≡ headAfter (now (head .entry)) (now (request .entry)) code ⌝ }
-{
-    let current = *head;
-    let next = effect::next_head(current, request, code);
-    *head = next;
+// What a call on a lent head gives: its code, the store's used length after it, and the length of the answer, 0 where none is written.
+pub struct Reply {
+    pub code: u8,
+    pub used: usize,
+    pub answered: usize,
 }
 
-// One call of the server on a lent head: `serve`, and the head that it gives is stored.
+// One call of the server on a lent head: `serve` on the head that is lent, and the head that it gives in its place.
 pub fn serve_lent(
     servers: u8,
     own: u8,
@@ -26,8 +22,8 @@ pub fn serve_lent(
     used: usize,
     request: &[u8],
     answer: &mut [u8],
-) -> Out
-    ensures { λ r. ⌜ (r ≡ served (settings servers own log (now (users .entry))) (now (head .entry)) (now (store .entry)) used (now (request .entry)) (now (answer .entry)) .out)
+) -> Reply
+    ensures { λ r. ⌜ (r ≡ replyOf (served (settings servers own log (now (users .entry))) (now (head .entry)) (now (store .entry)) used (now (request .entry)) (now (answer .entry)) .out))
         × ((now (head .exit) ≡ served (settings servers own log (now (users .entry))) (now (head .entry)) (now (store .entry)) used (now (request .entry)) (now (answer .entry)) .out .head)
         × ((now (store .exit) ≡ served (settings servers own log (now (users .entry))) (now (head .entry)) (now (store .entry)) used (now (request .entry)) (now (answer .entry)) .store)
         × (now (answer .exit) ≡ served (settings servers own log (now (users .entry))) (now (head .entry)) (now (store .entry)) used (now (request .entry)) (now (answer .entry)) .answer))) ⌝ }
@@ -45,5 +41,9 @@ pub fn serve_lent(
         answer,
     );
     *head = out.head;
-    out
+    Reply {
+        code: out.code,
+        used: out.used,
+        answered: out.answered,
+    }
 }

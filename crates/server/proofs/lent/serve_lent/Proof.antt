@@ -44,13 +44,16 @@ use denote.Triple.Spec.{Meets, tripleOf}
 use denote.Triple.Table.{entered, cited}
 use denote.Triple.Walked.{says, Stays, stay-ref, stay-dropped, gave-slice, walkOf, AllGo, goes-ref, goes-dropped, goes-gave-slice, Walks, ends-at, walked, walk-meets, Silent, Goes}
 use Rattle.server.specs.Checks.{settings}
-use Rattle.server.specs.Serve.{Left, served}
+use Rattle.server.specs.Serve.{Left, served, replyOf}
 use Rattle.server.specs.declared.Head.{Head}
 use Rattle.server.specs.declared.Out.{Out}
+use Rattle.server.specs.declared.lent.Reply.{Reply}
 use Rattle.server.proofs.Head as head
 use Rattle.server.proofs.Head.Laws as head-laws
 use Rattle.server.proofs.Out as out
 use Rattle.server.proofs.Out.Laws as out-laws
+use Rattle.server.proofs.lent.Reply as reply
+use Rattle.server.proofs.lent.Reply.Laws as reply-laws
 use Rattle.server.proofs.serve as serve
 use Rattle.server.proofs.serve.Symbol as serve-symbol
 use Rattle.server.proofs.serve.Symbol.{name as #serve}
@@ -93,12 +96,12 @@ stayed = (
   ),
 )
 
--- A head, and the result of a call, as the machine holds them.
+-- A head, and a reply, as the machine holds them.
 abbrev head-val : Head → Val
 head-val h = Struct.val head.the-type head-laws.the-laws h
 
-abbrev out-val : Out → Val
-out-val r = Struct.val out.the-type out-laws.the-laws r
+abbrev reply-val : Reply → Val
+reply-val r = Struct.val reply.the-type reply-laws.the-laws r
 
 abbrev slice-val : RefT (List ℕ) → Val
 slice-val x = sliceVal (x .ptr) (length (x .now))
@@ -106,12 +109,22 @@ slice-val x = sliceVal (x .ptr) (length (x .now))
 abbrev log-val : List ℕ → Val
 log-val log = only (array-vals (uint-vals w8) log)
 
--- What a call's result tells of its parts.
-out-is : (r : Out) (u : Val) → Is out.the-row r (u ∷ []) → Is out.the-row r (out-val r ∷ [])
-out-is r u is = Struct.owes out.the-type out-laws.the-laws r (Struct.owed out.the-type out-laws.the-laws r (u ∷ []) is)
+-- The reply that is made of a call's result.
+abbrev made : Out → Reply
+made r = record { code = r .code; used = r .used; answered = r .answered }
 
+made-of : (r o : Out) → r ≡ o → made r ≡ replyOf o
+unfolding replyOf
+made-of r o e = ap made e
+
+-- What a call's result tells of its parts, and of the reply.
 head-is : (r : Out) (u : Val) → Is out.the-row r (u ∷ []) → Is head.the-row (r .head) (head-val (r .head) ∷ [])
 head-is r u is = Struct.owed out.the-type out-laws.the-laws r (u ∷ []) is .1 .0
+
+reply-is : (r : Out) (u : Val) → Is out.the-row r (u ∷ []) → Is reply.the-row (made r) (reply-val (made r) ∷ [])
+reply-is r u is =
+    let parts = Struct.owed out.the-type out-laws.the-laws r (u ∷ []) is in
+    Struct.owes reply.the-type reply-laws.the-laws (made r) (parts .0, (parts .1 .1 .0, (parts .1 .1 .1 .0, tt)))
 
 abbrev Serve : {M : Type 1} (𝓤 : URA M) (H : Heap 𝓤) (A : Atoms 𝓤) (at-mem : Memory → SProp 𝓤) (run : Routine → Fun 𝓤) → Contract 𝓤
 Serve 𝓤 H A at-mem run = tripleOf 𝓤 H A serve.signature (serve.spec 𝓤 H A at-mem run)
@@ -164,17 +177,17 @@ module _ {M : Type 1} (𝓤 : URA M) (H : Heap 𝓤) (A : Atoms 𝓤) (W : Given
   Post = walkOf 𝓤 H A lent.ended stayed (lent.clauses 𝓤 H A at-mem run) .post ((κs, ts, tt, args, vals (vptr b o)), tt)
 
   -- The exit: the loan closed over the new head, and the store and the answer at their last bytes.
-  leaves : (r : Out) (s a : List ℕ) → Is out.the-row r (out-val r ∷ []) → (r ≡ left .out) × ((s ≡ left .store) × (a ≡ left .answer)) → length s ≡ length (now store) → length a ≡ length (now answer)
-      → ent 𝓤 (⋆ 𝓤 H A (‵ (fobs γ (head.the-row .coded .code (r .head))) ∷ ‵ (fbor κ (Body (mem head.the-row) b o γ)) ∷ ‵ (flft κ t) ∷ (‵ (flft κᵤ tᵤ) ⊛ ‵ (flft κₛ tₛ) ⊛ ‵ (flft κᵣ tᵣ) ⊛ ‵ (flft κₐ tₐ) ⊛ ‵ ftrue) ∷ ‵ (finally u8 (name answer) a) ∷ ‵ (finally u8 (name store) s) ∷ [])) (Post (out-val r))
+  leaves : (r : Out) (s a : List ℕ) → Is reply.the-row (made r) (reply-val (made r) ∷ []) → (r ≡ left .out) × ((s ≡ left .store) × (a ≡ left .answer)) → length s ≡ length (now store) → length a ≡ length (now answer)
+      → ent 𝓤 (⋆ 𝓤 H A (‵ (fobs γ (head.the-row .coded .code (r .head))) ∷ ‵ (fbor κ (Body (mem head.the-row) b o γ)) ∷ ‵ (flft κ t) ∷ (‵ (flft κᵤ tᵤ) ⊛ ‵ (flft κₛ tₛ) ⊛ ‵ (flft κᵣ tᵣ) ⊛ ‵ (flft κₐ tₐ) ⊛ ‵ ftrue) ∷ ‵ (finally u8 (name answer) a) ∷ ‵ (finally u8 (name store) s) ∷ [])) (Post (reply-val (made r)))
   leaves r s a is e ls la =
       qed W (‵ (fobs γ (head.the-row .coded .code (r .head))) ∷ ‵ (fbor κ (Body (mem head.the-row) b o γ)) ∷ ‵ (flft κ t) ∷ (‵ (flft κᵤ tᵤ) ⊛ ‵ (flft κₛ tₛ) ⊛ ‵ (flft κᵣ tᵣ) ⊛ ‵ (flft κₐ tₐ) ⊛ ‵ ftrue) ∷ ‵ (finally u8 (name answer) a) ∷ ‵ (finally u8 (name store) s) ∷ []) ∵
-      suffices ! _ (ends-at 𝓤 H A lent.ended stayed (lent.clauses 𝓤 H A at-mem run) W ((κs, ts, tt, args, vals (vptr b o)), tt) (out-val r) r (tt, (tt, (tt, (tt, (r .head, (s, (tt, (tt, (a, tt))))))))) (tt, (tt, (tt, (tt, (tt, (ls, (tt, (tt, (la, tt)))))))))) $
-      says ! (e .0, (ap (λ (x : Out). x .head) (e .0), e .1)) $
+      suffices ! _ (ends-at 𝓤 H A lent.ended stayed (lent.clauses 𝓤 H A at-mem run) W ((κs, ts, tt, args, vals (vptr b o)), tt) (reply-val (made r)) (made r) (tt, (tt, (tt, (tt, (r .head, (s, (tt, (tt, (a, tt))))))))) (tt, (tt, (tt, (tt, (tt, (ls, (tt, (tt, (la, tt)))))))))) $
+      says ! (made-of r (left .out) (e .0), (ap (λ (x : Out). x .head) (e .0), e .1)) $
       move ! (3 ∷ []) $ split ! $ move ! (4 ∷ 1 ∷ []) $ join ! $ move ! (1 ∷ 0 ∷ []) $ join ! $ frame ! $
       feqI ! (List Val) (vptr b o ∷ []) (vptr b o ∷ []) refl $ fjoin3 ! $
       nothing ! $ move ! (2 ∷ 0 ∷ []) $ fjoin ! $ nothing ! $ fjoin ! $ nothing ! $ fjoin ! $ move ! (2 ∷ 0 ∷ []) $ fjoin ! $ move ! (1 ∷ 0 ∷ []) $ fjoin ! $
       nothing ! $ fjoin ! $ nothing ! $ fjoin ! $ nothing ! $ fjoin ! $ nothing ! $ fjoin ! $
-      owned ! out.the-row (Is out.the-row) ((Struct.makes out.the-type out-laws.the-plain) 𝓤 H A) r _ is $ move ! (1 ∷ 0 ∷ []) $ done !
+      owned ! reply.the-row (Is reply.the-row) ((Struct.makes reply.the-type reply-laws.the-plain) 𝓤 H A) (made r) _ is $ move ! (1 ∷ 0 ∷ []) $ done !
 
   abbrev to-serve : Serve 𝓤 H A at-mem run .Ghost
   to-serve = (((κᵤ, (κₛ, (κᵣ, (κₐ, tt)))), (tᵤ, (tₛ, (tᵣ, (tₐ, tt)))), tt, to, vals (head-val h)), tt)
@@ -225,14 +238,15 @@ module _ {M : Type 1} (𝓤 : URA M) (H : Heap 𝓤) (A : Atoms 𝓤) (W : Given
         rewrite ! 16 (λ (v : Val). ‵ (fat fullShare out-laws.mir l₁₁ 0 v)) (ap only (Struct.tells out.the-type out-laws.the-laws r (u ∷ []) is)) refl $ drop ! $
         -- *head = out.head;
         assigns ! (of-opd ! (load ! (from ! (fld ! refl (stop !))) (look-in ! 15 (sub ! 1 refl (whole !))))) (from ! (hop ! (look ! 27 refl) (stop !))) (store-in ! 3 (whole !) (Struct.lawful head.the-type head-laws.the-laws 𝓤 H A W .typed (r .head) _ (head-is r u is) .0)) $
-        assigns ! (of-opd ! (load ! (from ! (stop !)) (look ! 15 refl))) (from ! (stop !)) (init ! 37 refl (Struct.lawful out.the-type out-laws.the-laws 𝓤 H A W .typed r _ (out-is r u is) .0)) $
+        -- Reply { .. }
+        assigns ! (agg ! (and-then ! (load ! (from ! (fld ! refl (stop !))) (look-in ! 15 (sub ! 0 refl (whole !)))) (and-then ! (load ! (from ! (fld ! refl (stop !))) (look-in ! 15 (sub ! 2 refl (whole !)))) (and-then ! (load ! (from ! (fld ! refl (stop !))) (look-in ! 15 (sub ! 3 refl (whole !)))) (no-more !))))) (from ! (stop !)) (init ! 37 refl (Struct.lawful reply.the-type reply-laws.the-laws 𝓤 H A W .typed (made r) _ (reply-is r u is) .0)) $
         -- The loan is closed over the new head, and the locals are given back.
         owned ! head.the-row (Is head.the-row) ((Struct.makes head.the-type head-laws.the-plain) 𝓤 H A) (r .head) _ (head-is r u is) $
         move ! (4 ∷ []) $ use1 W (‵ (cellAt fullShare (head.the-row .mir) (head-val (r .head) ∷ []) b o)) (W .laws .at-raw fullShare head-laws.mir b o (head-val (r .head))) $ move ! (0 ∷ 1 ∷ 5 ∷ 6 ∷ 7 ∷ []) $ closes ! tt head.the-row (r .head) (head-val (r .head) ∷ []) b o $
         returns ! (look ! 36 refl) $
         forget ! 6 refl $ forget ! 8 refl $ forget ! 10 refl $ forget ! 12 refl $ forget ! 14 refl $ forget ! 16 refl $ forget ! 18 refl $ forget ! 20 refl $ forget ! 22 refl $ forget ! 24 refl $ forget ! 26 refl $ forget ! 28 refl $ forget ! 30 refl $ forget ! 32 refl $ forget ! 34 refl $ forget ! 36 refl $
         move ! (36 ∷ 37 ∷ []) $ free1 ! $ move ! (34 ∷ 35 ∷ []) $ free1 ! $ move ! (32 ∷ 33 ∷ []) $ free1 ! $ move ! (30 ∷ 31 ∷ []) $ free1 ! $ move ! (28 ∷ 29 ∷ []) $ free1 ! $ move ! (26 ∷ 27 ∷ []) $ free1 ! $ move ! (24 ∷ 25 ∷ []) $ free1 ! $ move ! (22 ∷ 23 ∷ []) $ free1 ! $ move ! (20 ∷ 21 ∷ []) $ free1 ! $ move ! (18 ∷ 19 ∷ []) $ free1 ! $ move ! (16 ∷ 17 ∷ []) $ free1 ! $ move ! (14 ∷ 15 ∷ []) $ free1 ! $ move ! (12 ∷ 13 ∷ []) $ free1 ! $ move ! (10 ∷ 11 ∷ []) $ free1 ! $ move ! (8 ∷ 9 ∷ []) $ free1 ! $ move ! (6 ∷ 7 ∷ []) $ free1 ! $ free0 ! $
-        keep ! (0 ∷ 1 ∷ 2 ∷ 3 ∷ 4 ∷ 5 ∷ []) $ by ! (leaves r (w .1 .1 .1 .1 .1 .0) (w .1 .1 .1 .1 .1 .1 .1 .1 .0) (out-is r u is) e ls la))))))))))))))))))))))))))
+        keep ! (0 ∷ 1 ∷ 2 ∷ 3 ∷ 4 ∷ 5 ∷ []) $ by ! (leaves r (w .1 .1 .1 .1 .1 .0) (w .1 .1 .1 .1 .1 .1 .1 .1 .0) (reply-is r u is) e ls la))))))))))))))))))))))))))
 
 -- From the walk to the contract.
 module _ {M : Type 1} (𝓤 : URA M) (H : Heap 𝓤) (A : Atoms 𝓤) (W : Given 𝓤 H A) (at-mem : Memory → SProp 𝓤) (run : Routine → Fun 𝓤) where
