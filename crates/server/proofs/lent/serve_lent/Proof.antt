@@ -63,7 +63,7 @@ use Rattle.server.proofs.lent.serve_lent.Key.{name as #lent}
 use Rattle.server.proofs.lent.serve_lent.Statement as stated
 use Rattle.server.proofs.lent.serve_lent.Code as code
 
--- The parameters' places in the signature: plain data, and a slice shared for the lifetime of this number.
+-- Plain data, as places of a signature of five lifetimes.
 abbrev number : Slot 5
 number = plain (λ _. u8)
 
@@ -215,6 +215,8 @@ module _ {M : Type 1} (𝓤 : URA M) (H : Heap 𝓤) (A : Atoms 𝓤) (W : Given
         opens ! tt head.the-row {h = h} b o (λ vs. spelt ! head.the-row (Is head.the-row) (shows 𝓤 H A head.the-row) (Struct.vals head.the-type head-laws.the-laws) (Struct.tells head.the-type head-laws.the-laws) fullShare h vs b o $
         use1 W (‵ (fat fullShare head-laws.mir b o (head-val h))) (W .laws .raw-at fullShare head-laws.mir b o (head-val h)) $
         move ! (1 ∷ []) $ peeks ! head.the-row (Is head.the-row) (shows 𝓤 H A head.the-row) h (head-val h ∷ []) (λ was. move ! (1 ∷ 0 ∷ []) $
+        -- [the head's cell; what it owns; the open loan; its two halves; the other lifetimes, κᵤ apart; what the store and the parameters behind it
+        -- own; the users; the log; own; servers; local k at 12 + 2 (15 - k)]
         -- let current = *head;
         assigns ! (of-opd ! (load ! (from ! (hop ! (look ! 32 refl) (stop !))) (look-in ! 0 (whole !)))) (from ! (stop !)) (init ! 22 refl (Struct.lawful head.the-type head-laws.the-laws 𝓤 H A W .typed h _ was .0)) $
         -- the store and the answer, lent on
@@ -228,6 +230,7 @@ module _ {M : Type 1} (𝓤 : URA M) (H : Heap 𝓤) (A : Atoms 𝓤) (W : Given
         ∷ ‵ (owns (u8 ∷ u8 ∷ Array u8 16 ∷ ShrSlice (named 0) κᵤ u8 ∷ head.the-row ∷ MutSlice (named 1) κₛ u8 ∷ usize ∷ ShrSlice (named 2) κᵣ u8 ∷ MutSlice (named 3) κₐ u8 ∷ []) to (vals (head-val h))) ∷ []) ∵ join ! $ frame ! $ done !) $
         calls-at ! fm (Serve 𝓤 H A at-mem run) known to-serve (and-then ! (load ! (from ! (stop !)) (look ! 33 refl)) (and-then ! (load ! (from ! (stop !)) (look ! 31 refl)) (and-then ! (load ! (from ! (stop !)) (look ! 29 refl)) (and-then ! (load ! (from ! (stop !)) (look ! 27 refl)) (and-then ! (load ! (from ! (stop !)) (look ! 15 refl)) (and-then ! (load ! (from ! (stop !)) (look ! 9 refl)) (and-then ! (load ! (from ! (stop !)) (look ! 21 refl)) (and-then ! (load ! (from ! (stop !)) (look ! 19 refl)) (and-then ! (load ! (from ! (stop !)) (look ! 5 refl)) (no-more !)))))))))) (λ u.
         use1 W (later (some (λ (r : Out). ((‵ (flft κᵤ tᵤ) ⊛ ‵ (flft κₛ tₛ) ⊛ ‵ (flft κᵣ tᵣ) ⊛ ‵ (flft κₐ tₐ) ⊛ ‵ ftrue) ⊛ ‵ (out.the-row .own r (u ∷ []))) ⊛ raw (ensured 𝓤 H A serve.ended (serve.clauses 𝓤 H A at-mem run) (κᵤ, (κₛ, (κᵣ, (κₐ, tt)))) to tt r)))) (id⊢ 𝓤 _) $ await ! tt $ pick ! (λ r. split ! $ move ! (1 ∷ []) $
+        -- [what `serve` says; its result and the lifetimes; the head's cell; the open loan; its two halves; local k at 6 + 2 (15 - k)]
         -- what `serve` says of its result and of the last bytes of the store and the answer
         use1 W (some (λ (w : Unit {0} × (Unit {0} × (Unit {0} × (Unit {0} × (Unit {0} × (List ℕ × (Unit {0} × (Unit {0} × (List ℕ × Unit {0}))))))))). ‵ (lasts serve.ended (κᵤ, (κₛ, (κᵣ, (κₐ, tt)))) to w) ⊛ raw (fact 𝓤 ((r ≡ left .out) × ((w .1 .1 .1 .1 .1 .0 ≡ left .store) × (w .1 .1 .1 .1 .1 .1 .1 .1 .0 ≡ left .answer)))))) (id⊢ 𝓤 _) $ pick ! (λ w.
         split ! $ move ! (1 ∷ []) $ heard ! ((r ≡ left .out) × ((w .1 .1 .1 .1 .1 .0 ≡ left .store) × (w .1 .1 .1 .1 .1 .1 .1 .1 .0 ≡ left .answer))) (λ e.
@@ -236,6 +239,7 @@ module _ {M : Type 1} (𝓤 : URA M) (H : Heap 𝓤) (A : Atoms 𝓤) (W : Given
         move ! (1 ∷ []) $ drop ! $ move ! (2 ∷ []) $ split ! $ move ! (1 ∷ []) $
         peeks ! out.the-row (Is out.the-row) (shows 𝓤 H A out.the-row) r (u ∷ []) (λ is. land ! (from ! (stop !)) (init ! 16 refl (Struct.lawful out.the-type out-laws.the-laws 𝓤 H A W .typed r _ is .0)) $
         rewrite ! 16 (λ (v : Val). ‵ (fat fullShare out-laws.mir l₁₁ 0 v)) (ap only (Struct.tells out.the-type out-laws.the-laws r (u ∷ []) is)) refl $ drop ! $
+        -- [the lifetimes; the answer's last bytes; the store's; the head's cell; the open loan; its two halves; local k at 7 + 2 (15 - k)]
         -- *head = out.head;
         assigns ! (of-opd ! (load ! (from ! (fld ! refl (stop !))) (look-in ! 15 (sub ! 1 refl (whole !))))) (from ! (hop ! (look ! 27 refl) (stop !))) (store-in ! 3 (whole !) (Struct.lawful head.the-type head-laws.the-laws 𝓤 H A W .typed (r .head) _ (head-is r u is) .0)) $
         -- Reply { .. }
