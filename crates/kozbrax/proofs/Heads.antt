@@ -1,6 +1,6 @@
 -- The server's call over the head's 39 bytes.
 use mathlib.Core.Path.{_≡_, refl, _∙_, sym, ap, ap₂}
-use mathlib.Core.Bool.{true, false}
+use mathlib.Core.Bool.{true, false, _&&_}
 use mathlib.Core.List.{List, _∷_, _++_, append-assoc}
 use Prim.Native.Nat.{ℕ, zero, suc, _+_, _*_, _/_, _%_, _^_, _≤_, _<_, min}
 use native.Mathlib.Nat.{add-zero, pow-suc, mul-le-mul-right}
@@ -19,10 +19,12 @@ use Rattle.tree.specs.Cover.{piece}
 use Rattle.tree.proofs.Cases.{cases-le, and-true, untrue}
 use Rattle.tree.proofs.Messages.{be-one, number-elements, three-parts}
 use Rattle.tree.proofs.Pieces.{piece-whole}
+use Rattle.tree.specs.Setup.{groupFits, firstCode, userCount, settings}
 use Rattle.server.specs.declared.Head.{Head}
 use Rattle.server.specs.declared.Out.{Out}
-use Rattle.server.specs.Checks.{settings, userCount, firstCode, setupChecks, settingsFit}
+use Rattle.server.specs.Checks.{setupChecks, settingsFit}
 use Rattle.server.specs.Serve.{refusedSetup, served}
+use Rattle.tree.proofs.Groups.{group-fits}
 use Rattle.server.proofs.Served.{served-refused}
 use Rattle.server.proofs.Sizes.{answer-at-most-2552}
 use Rattle.kozbrax.specs.Server.{headBytes, headOf, resultOf, serverLeft}
@@ -107,13 +109,8 @@ module _ (b : List ℕ) (bytes : (i : ℕ) → getD b i 0 < 256) where
 numbers-fit : (servers own : ℕ) (users : List ℕ) → settingsFit servers own users ≡ true → (servers ≤ 16) × (own ≤ servers)
 unfolding settingsFit
 numbers-fit servers own users t =
-    let a = and-true (leb 2 servers) _ t in
-    let b = and-true (leb servers 16) _ (a .1) in
-    let c = and-true (eqb (length users % 56) 0) _ (b .1) in
-    let d = and-true (leb 1 (userCount users)) _ (c .1) in
-    let e = and-true (leb (userCount users) 64) _ (d .1) in
-    let f = and-true (leb 1 own) _ (e .1) in
-    (leb-true servers 16 (b .0), leb-true own servers (f .1))
+    let a = and-true (groupFits servers users) (leb 1 own && leb own servers) t in
+    (group-fits servers users (a .0) .sixteen, leb-true own servers (and-true (leb 1 own) _ (a .1) .1))
 
 -- a number of servers above 16, or an own number above it, is refused with 22
 module _ (log users : List ℕ) (h : Head) (store : List ℕ) (used : ℕ) (q answer : List ℕ) where

@@ -1,6 +1,6 @@
 // The head as the record that document 01 lends to the server.
 ghost use mathlib.Core.Path.{_≡_};
-ghost use Rattle.server.specs.Checks.{settings};
+ghost use Rattle.tree.specs.Setup.{settings};
 ghost use Rattle.server.specs.Serve.{served, replyOf};
 use super::Head;
 

@@ -11,7 +11,8 @@ pub mod Covers
 pub mod ReadLaws
 pub mod Grows
 pub mod Messages
-pub mod Setup
+pub mod CheckLists
+pub mod Groups
 pub mod Asked
 pub mod Walks
 pub mod Paths

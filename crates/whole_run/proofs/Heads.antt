@@ -16,9 +16,10 @@ use Rattle.tree.specs.Message.{request, requestHeader, requestKind, requestLog,
 use Rattle.tree.proofs.Cases.{by-eqb, cases-eq}
 use Rattle.tree.proofs.Messages.{request-kind, request-position, request-body, answer-code}
 use Rattle.tree.proofs.Pieces.{piece-whole}
+use Rattle.tree.specs.Setup.{firstCode, userCount, Settings, Settings as UserSettings, settings}
 use Rattle.server.specs.declared.Head.{Head}
 use Rattle.server.specs.Shape.{bodyFits, requestFits}
-use Rattle.server.specs.Checks.{Settings, settings, userCount, ownsNode, reservable, firstCode, setupChecks, requestChecks, checksOver, kindChecks}
+use Rattle.server.specs.Checks.{ownsNode, reservable, setupChecks, requestChecks, checksOver, kindChecks}
 use Rattle.server.specs.Serve.{headAfter, headerGiven, answerGiven, Left, refusedSetup, served}
 use Rattle.server.proofs.Codes.{passed}
 use Rattle.server.proofs.Appended.{take-written}
@@ -26,7 +27,6 @@ use Rattle.server.proofs.Served.{code, given, served-passed, served-refused}
 use Rattle.server.proofs.Theorems.{refusal-keeps-all, head-changes-only-by-reserve, position-never-falls, one-digest-a-position}
 use Rattle.server.proofs.After.{accepted-setup, accepted-code, accepted-fits}
 use Rattle.server.proofs.Sizes.{answer-at-most-2552}
-use Rattle.user.specs.Asking.{Settings as UserSettings}
 use Rattle.whole_run.specs.World.{Group, settingsOf, answered, Input, userStep}
 use Rattle.whole_run.specs.Runs.{World, Step, user, server, setup, withUser, withServer, serverEvents, step, run}
 use Rattle.whole_run.proofs.Quiet.{answers-before}

@@ -18,10 +18,11 @@ use Rattle.tree.proofs.Cases.{cases-eq, not-both, positive, and-true}
 use Rattle.tree.proofs.Levels.{lg-below}
 use Rattle.tree.proofs.Agree.{AllIn, Sized}
 use Rattle.tree.proofs.Cuts.{cover-path-sized, cover-digest-sized}
+use Rattle.tree.specs.Setup.{Settings}
 use Rattle.user.specs.declared.call.Kept.{Kept}
 use Rattle.user.specs.declared.call.Update.{Update}
 use Rattle.user.specs.declared.call.Write.{Write}
-use Rattle.user.specs.Asking.{Settings, requestRoom, refused, done, asking}
+use Rattle.user.specs.Asking.{requestRoom, refused, done, asking}
 use Rattle.user.specs.Update.{UpdateLeft, updateNext, updateCollected, updateEnded, updateRefused, updateGoes, updateTaken, arrived}
 use Rattle.user.specs.Write.{WriteLent, WriteLeft, withHashes, withPath, withUpdate, openedAt, ownLeaf, pathDigest, heldEntry, commitNumber, writeRefused, writeAsks, writeWaits, writeOpens, writeUpdates, opening}
 use Rattle.whole_run.specs.World.{Event, hashed, signed, allHashed, Lent, Sent, Reading, User, Outcome, coverStrings, afterWrite, openingHashed, writeSigned, writeAccepted, writeLent, recordAccepted}

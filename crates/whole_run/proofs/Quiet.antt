@@ -7,11 +7,11 @@ use Prim.Native.Nat.{ℕ}
 use native.Mathlib.Omega.{arith}
 use lib.Dec.{eqb}
 use Rattle.sha256.proofs.Cases.{by-bool}
+use Rattle.tree.specs.Setup.{Settings}
 use Rattle.user.specs.declared.call.Kept.{Kept}
 use Rattle.user.specs.declared.call.Step.{Step as Asking}
 use Rattle.user.specs.declared.call.Update.{Update}
 use Rattle.user.specs.declared.call.Write.{Write}
-use Rattle.user.specs.Asking.{Settings}
 use Rattle.user.specs.Update.{UpdateLeft}
 use Rattle.user.specs.Write.{WriteLeft, signsNext, writeStarted}
 use Rattle.user.specs.Read.{ReadLeft}

@@ -16,15 +16,16 @@ use Rattle.tree.specs.Expr.{value, strings, NoCollision}
 use Rattle.tree.specs.Tree.{digest}
 use Rattle.tree.specs.Read.{readDigest}
 use Rattle.tree.specs.Message.{answerCode, answerBody}
-use Rattle.tree.specs.Setup.{on, firstCode}
+use Rattle.tree.specs.Setup.{on, firstCode, Settings}
 use Rattle.tree.proofs.Cases.{and-true, cases-eq, by-eqb, not-both}
 use Rattle.tree.proofs.Agree.{AllIn, Sized}
 use Rattle.tree.proofs.Cuts.{read-digest-sized}
 use Rattle.tree.proofs.ReadLaws.{read-gives-leaf}
-use Rattle.tree.proofs.Setup.{check-passes}
+use Rattle.tree.proofs.CheckLists.{check-passes}
 use Rattle.user.specs.declared.call.Kept.{Kept}
 use Rattle.user.specs.declared.call.Read.{Read}
-use Rattle.user.specs.Asking.{Settings, setupChecks, requestRoom, Want, ofNode, headed, isAnswer, bodyFits, answerChecks, refused, done, asking}
+use Rattle.user.specs.declared.ask.Want.{Want}
+use Rattle.user.specs.Asking.{setupChecks, requestRoom, ofNode, headed, isAnswer, bodyFits, answerChecks, refused, done, asking}
 use Rattle.user.specs.Read
 use Rattle.user.specs.Read.{ReadLent, ReadLeft, readWith, readHashes, readHeld, readCount, readWant, readChecks, freshRead, readAsks, readRefused, readStarted, readNext, heldText, textAuthor, textEntry, readOver, readGives, readEarly, readCollected, readEnds, readTaken}
 use Rattle.whole_run.specs.World.{Event, Lent, Reading, User, Outcome, returned, newReads, afterRead, readHashed, readLent}

@@ -20,10 +20,12 @@ use Rattle.tree.specs.Message.{request, requestHeader, requestKind, requestPosi
 use Rattle.tree.proofs.Cases.{and-true}
 use Rattle.tree.proofs.Messages.{be-one, request-position}
 use Rattle.tree.proofs.Pieces.{piece-length}
+use Rattle.tree.specs.Setup.{Settings}
 use Rattle.user.specs.declared.call.Kept.{Kept}
 use Rattle.user.specs.declared.call.Update.{Update}
 use Rattle.user.specs.declared.call.Write.{Write}
-use Rattle.user.specs.Asking.{Settings, requestRoom, Want, ofNode, ofStatus, asks}
+use Rattle.user.specs.declared.ask.Want.{Want}
+use Rattle.user.specs.Asking.{requestRoom, ofNode, ofStatus, asks}
 use Rattle.user.specs.Update.{updateWant}
 use Rattle.user.specs.Write.{Key, WriteLent, entryFits, commitNumber, pathDigest, writeKind, writeLevel, writeBody, heldEntry, writeRoom, signsNext, writeSignature}
 use Rattle.whole_run.proofs.Passed.{by-cond, sent-is}

@@ -14,10 +14,10 @@ use Rattle.tree.specs.Cover.{coverDigest}
 use Rattle.tree.specs.Message.{request, signedText}
 use Rattle.tree.proofs.Agree.{AllIn, Sized, all-in}
 use Rattle.tree.proofs.Covers.{cover-gives-digest}
+use Rattle.tree.specs.Setup.{Settings}
 use Rattle.user.specs.declared.call.Kept.{Kept}
 use Rattle.user.specs.declared.call.Update.{Update}
 use Rattle.user.specs.declared.call.Write.{Write}
-use Rattle.user.specs.Asking.{Settings}
 use Rattle.user.specs.Write.{commitNumber, pathDigest}
 use Rattle.user.specs.Read.{textAuthor, textEntry}
 use Rattle.whole_run.specs.World.{Event, hashed, signed, accepted, answered, allHashed, Call, idle, updating, writing, reading, Sent, Reading, User, Outcome}

@@ -10,8 +10,8 @@ use lib.ListN.{length, take, length-replicate}
 use Rattle.sha256.proofs.Cases.{by-bool}
 use Rattle.tree.specs.Expr.{NoCollision}
 use Rattle.tree.proofs.Cases.{by-eqb, not-both}
+use Rattle.tree.specs.Setup.{Settings}
 use Rattle.server.specs.Serve.{Left}
-use Rattle.user.specs.Asking.{Settings}
 use Rattle.user.specs.declared.call.Write.{Write}
 use Rattle.user.specs.Write.{WriteLeft, writeGoes, writeUpdates, writeTaken}
 use Rattle.whole_run.specs.World.{Group, settingsOf, Event, hashed, signed, accepted, answered, Call, idle, updating, writing, reading, User, Outcome, Input, startUpdate, startWrite, startRead, answer, taking, userStep, afterWrite, writeLent}

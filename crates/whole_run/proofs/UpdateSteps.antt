@@ -11,15 +11,15 @@ use Rattle.sha256.specs.Bytes.{numberAt}
 use Rattle.tree.specs.Expr.{strings, NoCollision}
 use Rattle.tree.specs.Cover.{coverDigest}
 use Rattle.tree.specs.Message.{answerBody, signedText}
-use Rattle.tree.specs.Setup.{on, firstCode}
+use Rattle.tree.specs.Setup.{on, firstCode, Settings}
 use Rattle.tree.proofs.Cases.{cases-eq, positive, not-both, by-eqb}
 use Rattle.tree.proofs.Agree.{AllIn}
 use Rattle.tree.proofs.Cuts.{cover-digest-sized}
-use Rattle.tree.proofs.Setup.{check-passes}
+use Rattle.tree.proofs.CheckLists.{check-passes}
 use Rattle.user.specs.declared.call.Kept.{Kept}
 use Rattle.user.specs.declared.call.Step.{Step}
 use Rattle.user.specs.declared.call.Update.{Update}
-use Rattle.user.specs.Asking.{Settings, requestRoom, refused, done, asking}
+use Rattle.user.specs.Asking.{requestRoom, refused, done, asking}
 use Rattle.user.specs.Update.{UpdateLeft, freshUpdate, updateNext, updateCollected, updateEnded, updateSetup, updateGoes, updateRefused, updateStarted, updateTaken, arrived}
 use Rattle.whole_run.specs.World.{Event, Reading, accepted, hashed, allHashed, Lent, idle, updating, User, Outcome, returned, coverStrings, afterUpdate, updateHashed, recordAccepted, sentBy}
 use Rattle.whole_run.proofs.Histories

@@ -15,12 +15,12 @@ use Rattle.tree.specs.Level.{lg}
 use Rattle.tree.specs.Expr.{value, NoCollision}
 use Rattle.tree.specs.Cover.{tilesIn, tiles, peaks, cover, piece, coverDigest}
 use Rattle.tree.specs.Message.{answerCode, answerBody, signedText}
-use Rattle.tree.specs.Setup.{inLog, Check, on, firstCode}
+use Rattle.tree.specs.Setup.{inLog, Check, on, firstCode, Settings}
 use Rattle.tree.proofs.Cases.{and-true, cases-le, cases-eq, by-eqb, positive, not-both}
-use Rattle.tree.proofs.Setup.{check-passes, checked-front, checked-back}
+use Rattle.tree.proofs.CheckLists.{check-passes, checked-front, checked-back}
 use Rattle.user.specs.declared.call.Kept.{Kept}
 use Rattle.user.specs.declared.call.Update.{Update}
-use Rattle.user.specs.Asking.{Settings, setupChecks, requestRoom, asks, answerChecks, isAnswer, done, asking}
+use Rattle.user.specs.Asking.{setupChecks, requestRoom, asks, answerChecks, isAnswer, done, asking}
 use Rattle.user.specs.Update
 use Rattle.user.specs.Update.{UpdateLeft, updateEnded, updateWant, updateNext, statusTaken, updateChecks, updateEarly, updateSetup, updateCollected, arrived, updateGoes, updateRefused, updateTaken, headHolds, toldPosition, toldLevel, toldLabel, coverGivesOwn, coverGivesNew, recordHolds}
 use Rattle.whole_run.proofs.Passed.{InRange, Answered, setup-passed, answer-passed, or-cases, not-true}

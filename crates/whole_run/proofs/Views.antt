@@ -11,13 +11,13 @@ use Rattle.sha256.specs.Bytes.{written}
 use Rattle.sha256.proofs.Cases.{cases-lt}
 use Rattle.tree.specs.Cover.{cover}
 use Rattle.tree.specs.Message.{requestKind, requestPosition, answerBody}
-use Rattle.tree.specs.Setup.{firstCode}
+use Rattle.tree.specs.Setup.{firstCode, Settings}
 use Rattle.tree.proofs.Cases.{and-true, not-both, by-eqb, cases-eq}
-use Rattle.tree.proofs.Setup.{check-passes}
+use Rattle.tree.proofs.CheckLists.{check-passes}
 use Rattle.user.specs.declared.call.Kept.{Kept}
 use Rattle.user.specs.declared.call.Update.{Update}
 use Rattle.user.specs.declared.call.Write.{Write}
-use Rattle.user.specs.Asking.{Settings, setupChecks, requestRoom, ofNode, refused, done, asking}
+use Rattle.user.specs.Asking.{setupChecks, requestRoom, ofNode, refused, done, asking}
 use Rattle.user.specs.Update.{UpdateLeft, freshUpdate, updateEnded, updateWant, updateNext, arrived, updateGoes, updateRefused, updateSetup, updateStarted, updateCollected, updateTaken}
 use Rattle.user.specs.Write.{WriteLent, WriteLeft, withHashes, withHeld, withSignature, withUpdate, commitNumber, writeKind, writeWant, writeBody, heldEntry, writeAsks, writeWaits, writeRefused, writeRoom, writeStartChecks, freshWrite, writeStarted, openingChecks, opening, openedAt, writeOpens, writeUpdates, writeChecks, writeSignature, signing, committed, writeGoes, writeTaken}
 use Rattle.user.specs.Read.{ReadLeft}

@@ -9,11 +9,11 @@ use lib.ListN.{length}
 use Rattle.sha256.specs.Bytes.{written}
 use Rattle.sha256.proofs.Cases.{by-bool}
 use Rattle.tree.specs.Expr.{strings, NoCollision}
-use Rattle.tree.specs.Setup.{firstCode}
+use Rattle.tree.specs.Setup.{firstCode, Settings}
 use Rattle.tree.proofs.Cases.{not-both, by-eqb, and-true}
 use Rattle.user.specs.declared.call.Kept.{Kept}
 use Rattle.user.specs.declared.call.Write.{Write}
-use Rattle.user.specs.Asking.{Settings, setupChecks, requestRoom, refused, done, asking}
+use Rattle.user.specs.Asking.{setupChecks, requestRoom, refused, done, asking}
 use Rattle.user.specs.Update.{freshUpdate, updateGoes}
 use Rattle.user.specs.Write.{WriteLent, WriteLeft, withHeld, ownLeaf, freshWrite, writeRefused, writeAsks, writeWaits, writeRoom, writeStartChecks, writeStarted}
 use Rattle.whole_run.specs.World.{Event, allHashed, Lent, Reading, User, Outcome, afterWrite, writeLent}

@@ -14,12 +14,12 @@ use Rattle.tree.specs.Label.{owner}
 use Rattle.tree.specs.Expr.{NoCollision}
 use Rattle.tree.specs.Tree.{digest}
 use Rattle.tree.specs.Message.{request, answerCode, signedText}
-use Rattle.tree.specs.Setup.{firstCode}
+use Rattle.tree.specs.Setup.{firstCode, Settings}
 use Rattle.tree.proofs.Cases.{and-true, cases-eq, cases-le, not-both, by-eqb, positive}
 use Rattle.user.specs.declared.call.Kept.{Kept}
 use Rattle.user.specs.declared.call.Update.{Update}
 use Rattle.user.specs.declared.call.Write.{Write}
-use Rattle.user.specs.Asking.{Settings, requestRoom, refused, done, asking}
+use Rattle.user.specs.Asking.{requestRoom, refused, done, asking}
 use Rattle.user.specs.Update.{UpdateLeft}
 use Rattle.user.specs.Read.{textAuthor, textEntry}
 use Rattle.user.specs.Write.{WriteLent, WriteLeft, withSignature, openedAt, commitNumber, pathDigest, writeRefused, writeAsks, signsNext, writeSignature, signing, committed, writeGoes}

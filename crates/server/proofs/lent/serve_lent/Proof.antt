@@ -43,7 +43,7 @@ use denote.Triple.Entry.{onEntry}
 use denote.Triple.Spec.{Meets, tripleOf}
 use denote.Triple.Table.{entered, cited}
 use denote.Triple.Walked.{says, Stays, stay-ref, stay-dropped, gave-slice, walkOf, AllGo, goes-ref, goes-dropped, goes-gave-slice, Walks, ends-at, walked, walk-meets, Silent, Goes}
-use Rattle.server.specs.Checks.{settings}
+use Rattle.tree.specs.Setup.{settings}
 use Rattle.server.specs.Serve.{Left, served, replyOf}
 use Rattle.server.specs.declared.Head.{Head}
 use Rattle.server.specs.declared.Out.{Out}
