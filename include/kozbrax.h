@@ -70,6 +70,24 @@ uint32_t kozbrax_digest(const uint8_t *leaves, size_t leaves_len, uint8_t *out, 
    Returns 0, or 21 where the lengths differ. Leaves, on 21: standing as it was. */
 uint32_t kozbrax_board(const uint32_t *targets, size_t targets_len, uint32_t *standing, size_t standing_len);
 
+/* What a call of the server gives: its code, the length of the answer (0 where none is written), and the store's used length after it. */
+typedef struct {
+  uint32_t code;
+  uint32_t answer;
+  uint64_t used;
+} kozbrax_served;
+
+/* One call of server own, of `servers`: takes in a request of any bytes. log has 16 bytes; users are the users' public keys, 56 bytes each.
+   head has 39 bytes, big-endian: p (4 bytes at 0), l (1 at 4), author (2 at 5), digest (32 at 7); all zero at first. The first `used`
+   bytes of store are its records; at first there are none. The caller keeps head, store and `used` from call to call.
+   Returns the code: 22 where `servers` is not 2 to 16, own not 1 to `servers`, users_len not 56 to 3,584 in steps of 56, the head out
+   of range or the used part not whole stored records; else 21 where answer_len is below 2,552; else 0 to 9, as the answer says.
+   Leaves, on 0: the request's effect on head or on store and `used`, and the answer in the first bytes. On 1 to 9: the answer, and head
+   and store as they were. On 21 and 22: everything as it was. The bytes past the answer, and past the used part, stay as they were. */
+kozbrax_served kozbrax_server(uint32_t servers, uint32_t own, const uint8_t *log, const uint8_t *users, size_t users_len, uint8_t *head,
+                              uint8_t *store, size_t store_len, uint64_t used, const uint8_t *request, size_t request_len,
+                              uint8_t *answer, size_t answer_len);
+
 #ifdef __cplusplus
 }
 #endif

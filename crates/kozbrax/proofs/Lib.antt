@@ -1,3 +1,4 @@
 -- Laws that the exports' proofs cite.
 pub mod Ranges
 pub mod Nodes
+pub mod Heads

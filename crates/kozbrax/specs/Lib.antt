@@ -2,3 +2,4 @@
 pub mod Hash
 pub mod Tree
 pub mod Lms
+pub mod Server

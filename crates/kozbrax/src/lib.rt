@@ -3,4 +3,5 @@ mod board;
 mod cover;
 mod hash;
 mod label;
+mod serving;
 mod signature;

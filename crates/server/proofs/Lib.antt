@@ -4,4 +4,5 @@ pub mod Judged
 pub mod Codes
 pub mod Effects
 pub mod Served
+pub mod Answers
 pub mod Theorems
