@@ -91,7 +91,11 @@ impl<'a> Session<'a> {
         let kind = if self.random.chance(20) { COMMIT } else { PUT_OPERATION + self.random.below(2) as u8 };
         let kind = if levels(kind, p).is_empty() { PUT_OPERATION } else { kind };
         let l = self.a_level(kind, p);
-        Message { kind, author, p, l, body: body(kind, &mut self.random) }
+        let mut body = body(kind, &mut self.random);
+        if kind == COMMIT && self.random.chance(50) {
+            body[..HASH].copy_from_slice(&self.now.head_digest());
+        }
+        Message { kind, author, p, l, body }
     }
 
     fn any_author(&mut self) -> u16 {
@@ -206,9 +210,10 @@ impl<'a> Session<'a> {
         self.plan.reverse();
     }
 
-    /// With a true signature where the author has a key.
+    /// With a true signature where the author has a key; now and then it is another user's.
     fn commit_body(&mut self, author: u16, p: u32, digest: &[u8]) -> Vec<u8> {
-        match self.holders[usize::from(author) - 1] {
+        let signer = if self.random.chance(90) { author } else { self.any_author() };
+        match self.holders[usize::from(signer) - 1] {
             Some(key) => signed_body(&self.keys[key], &self.now.log, p, digest, &mut self.random),
             None => [digest, &body(COMMIT, &mut self.random)[HASH..]].concat(),
         }

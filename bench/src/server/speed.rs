@@ -104,9 +104,10 @@ fn again(case: &mut Case, serve: Serve) -> Served {
     )
 }
 
-/// Rounds of the library against plain Rust on one call, which is to end with the code. Both sides take the same buffers, so
-/// that what the processor keeps of them serves both.
+/// Rounds of the library against plain Rust on one call, which is to end with the code and the same on both sides. Both take
+/// the same buffers, so that what the processor keeps of them serves both.
 fn race(case: Case, code: u32) -> Race {
+    assert!(case.run(LIBRARY) == case.run(PLAIN), "the library and plain Rust differ on a large store");
     let case = RefCell::new(case);
     let call = |serve: Serve| assert_eq!(again(&mut case.borrow_mut(), serve).code, code);
     let mut race = Race::new(Clock::Processor, || call(LIBRARY));
