@@ -198,8 +198,10 @@ impl Sweeps<'_> {
         }
     }
 
+    /// On a fresh head, whose author need not be listed.
     fn user_lengths(&mut self) {
         let mut case = self.valid_at_8(STATUS);
+        case.head = [0; HEAD];
         let long = self.random.bytes(66 * KEY);
         for length in 0..=long.len() {
             case.users = long[..length].to_vec();
