@@ -1,9 +1,9 @@
 //! The server's call: the library's against plain Rust's.
 mod case;
 mod damage;
+mod exchange;
 mod honest;
 mod message;
-mod session;
 mod speed;
 mod sweeps;
 
@@ -12,11 +12,11 @@ use crate::plain_server::HEAD;
 use crate::sample::Random;
 use crate::{library, plain_server};
 use case::Tally;
+use exchange::Exchange;
 use honest::Log;
-use session::Session;
 use sweeps::Sweeps;
 
-const SESSIONS: u64 = 4000;
+const EXCHANGES: u64 = 4000;
 const STEPS: usize = 120;
 
 /// How often each code has to come up, in all and for each kind that may have it, for the comparison to count.
@@ -55,13 +55,13 @@ pub fn run(seed: u64) {
         Log::new(&mut tally, Random::new(seed), &keys, servers).run();
     }
     println!("logs of 2 to 16 servers written without a fault: each request accepted, and everything stored found");
-    for session in 0..SESSIONS {
-        let mut session = Session::new(seed.wrapping_mul(SESSIONS).wrapping_add(session), &keys);
+    for exchange in 0..EXCHANGES {
+        let mut exchange = Exchange::new(seed.wrapping_mul(EXCHANGES).wrapping_add(exchange), &keys);
         for _ in 0..STEPS {
-            session.step(&mut tally);
+            exchange.step(&mut tally);
         }
     }
-    println!("{SESSIONS} random sessions of {STEPS} calls, seed {seed}: the same in code, answer, head and store");
+    println!("{EXCHANGES} random exchanges of {STEPS} calls, seed {seed}: the same in code, answer, head and store");
     println!("{} calls in all, by kind and code:", tally.total());
     tally.print();
     tally.demand(OFTEN, OFTEN_FOR_A_KIND);

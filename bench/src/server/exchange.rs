@@ -1,4 +1,4 @@
-//! Random sessions with one server: an honest writer, and others that repeat, pull, reserve and damage between its requests.
+//! Random exchanges with one server: an honest writer, and others that repeat, pull, reserve and damage between its requests.
 use super::case::{Case, Tally};
 use super::damage;
 use super::message::{body, levels, owned_levels, position, signed_body, Message};
@@ -8,7 +8,7 @@ use crate::plain_server::{lg, owner, COMMIT, HASH, HEAD, LAST_POSITION, LONGEST_
 use crate::plain_server::{NODE, OPERATION, PUT_NODE, PUT_OPERATION, RECORD, RESERVE, STATUS};
 use crate::sample::Random;
 
-pub struct Session<'a> {
+pub struct Exchange<'a> {
     random: Random,
     keys: &'a [Key],
     /// Which key each user has, or none: such a user's key in the list is made of random bytes.
@@ -21,9 +21,9 @@ pub struct Session<'a> {
     stored: Vec<Message>,
 }
 
-impl<'a> Session<'a> {
+impl<'a> Exchange<'a> {
     /// Settings, user list, head and store drawn from the seed.
-    pub fn new(seed: u64, keys: &'a [Key]) -> Session<'a> {
+    pub fn new(seed: u64, keys: &'a [Key]) -> Exchange<'a> {
         let mut random = Random::new(seed);
         let servers = 2 + random.below(15) as u32;
         let any_count = 1 + random.below(MOST_USERS);
@@ -45,10 +45,10 @@ impl<'a> Session<'a> {
             answer: Vec::new(),
         };
         let (plan, sent, stored) = (Vec::new(), Vec::new(), Vec::new());
-        let mut session = Session { random, keys, holders, now, writing: 0, plan, sent, stored };
-        session.choose_head();
-        session.fill_store();
-        session
+        let mut exchange = Exchange { random, keys, holders, now, writing: 0, plan, sent, stored };
+        exchange.choose_head();
+        exchange.fill_store();
+        exchange
     }
 
     /// A fresh head, or any in range.
@@ -102,7 +102,7 @@ impl<'a> Session<'a> {
         1 + self.random.below(self.holders.len()) as u16
     }
 
-    /// A level of the kind at p, one that the server owns if there is one. Some kind's levels are none: then 0.
+    /// A level of the kind at p, one that the server owns if there is one; 0 where the kind has none at p.
     fn a_level(&mut self, kind: u8, p: u32) -> u8 {
         let owned = owned_levels(kind, p, self.now.servers, self.now.own);
         let from = if owned.is_empty() { levels(kind, p) } else { owned };
@@ -235,9 +235,8 @@ impl<'a> Session<'a> {
     /// At the head's position with its author and digest or others, or at a position beside it.
     fn reserve_about_head(&mut self) -> Message {
         let head = self.now.head_position();
-        let p =
-            if self.random.chance(70) { head } else { head + 5 - self.random.below(10).min(head as usize + 5) as u32 };
-        let p = p.clamp(1, LAST_POSITION);
+        let beside = (head + self.random.below(10) as u32).saturating_sub(4);
+        let p = if self.random.chance(70) { head } else { beside }.clamp(1, LAST_POSITION);
         let other_author = self.any_author();
         let other_digest = self.random.bytes(HASH);
         let author = if self.random.chance(80) { self.now.head_author() } else { other_author };
