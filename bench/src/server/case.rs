@@ -95,7 +95,7 @@ impl Case {
 }
 
 impl After {
-    fn print(&mut self, side: &str) {
+    fn print(&self, side: &str) {
         println!("{side}: code {} answer {} used {}", self.served.code, self.served.answer, self.served.used);
         for (name, bytes) in [("head", &self.head), ("store", &self.store), ("answer", &self.answer)] {
             println!("{side}, {name} with {MARGIN} bytes before and behind: {}", hex(bytes));
@@ -116,7 +116,7 @@ pub struct Tally {
 impl Tally {
     /// Runs the case on both sides. Prints it whole and ends the program where they differ in anything.
     pub fn compare(&mut self, case: &Case) -> After {
-        let [mut ours, mut plain] = [LIBRARY, PLAIN].map(|serve| case.run(serve));
+        let [ours, plain] = [LIBRARY, PLAIN].map(|serve| case.run(serve));
         if ours != plain {
             println!("the library and plain Rust differ on this call:");
             case.print();

@@ -18,7 +18,7 @@ const SERVERS: u32 = 4;
 /// The head's position, full at each of its levels, behind all that is stored for the timing.
 const P: u32 = 1 << 19;
 
-/// Entries in a store: how the records come one after the other, by kind and body length.
+/// The records of a store one after the other, by kind and body length, again from the start when they are through.
 const MIXES: [(&str, &[(u8, usize)]); 5] = [
     ("PutNode, 44 bytes", &[(PUT_NODE, HASH)]),
     ("PutOperation, 112 bytes", &[(PUT_OPERATION, 100)]),

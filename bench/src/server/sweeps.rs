@@ -71,7 +71,7 @@ impl Sweeps<'_> {
         self.valid(kind, 8, l)
     }
 
-    /// One of each stored kind at position 8, the entry's length given, before what is stored there.
+    /// Records of each stored kind at position 8, the entry's length given.
     fn stored(&mut self, entry: usize) -> Vec<u8> {
         let random = &mut self.random;
         let message = |kind, l, body| Message { kind, author: 2, p: 8, l, body };
