@@ -2,8 +2,12 @@
 //! Nothing checks these declarations against the Rattle source: keep them as the header has them.
 
 use crate::lms::Signer;
+use crate::plain_server::HEAD;
+use crate::server::{Served, Settings};
 
 mod raw {
+    use crate::server::Served;
+
     extern "C" {
         pub fn kozbrax_sha256(message: *const u8, message_len: usize, out: *mut u8, out_len: usize) -> u32;
         pub fn kozbrax_lms_generate(seed: *const u8, id: *const u8, tree: *mut u8, tree_len: usize) -> u32;
@@ -34,6 +38,21 @@ mod raw {
             signature: *const u8,
             signature_len: usize,
         ) -> u32;
+        pub fn kozbrax_server(
+            servers: u32,
+            own: u32,
+            log: *const u8,
+            users: *const u8,
+            users_len: usize,
+            head: *mut u8,
+            store: *mut u8,
+            store_len: usize,
+            used: u64,
+            request: *const u8,
+            request_len: usize,
+            answer: *mut u8,
+            answer_len: usize,
+        ) -> Served;
     }
 }
 
@@ -80,5 +99,35 @@ pub fn lms_check(key: &[u8], text: &[u8], signature: &[u8]) -> u32 {
     // SAFETY: the slices are valid for their lengths, and nothing is written. The function has no `requires`.
     unsafe {
         raw::kozbrax_lms_check(key.as_ptr(), key.len(), text.as_ptr(), text.len(), signature.as_ptr(), signature.len())
+    }
+}
+
+/// The code, the length of the answer in its buffer, and the store's new used length. 22 and 21 write nothing.
+pub fn server(
+    settings: &Settings,
+    head: &mut [u8; HEAD],
+    store: &mut [u8],
+    used: u64,
+    request: &[u8],
+    answer: &mut [u8],
+) -> Served {
+    // SAFETY: the slices are valid for their lengths, the log name and the head have the lengths that the function reads,
+    // and head, store and answer are borrowed alone. The function has no `requires`.
+    unsafe {
+        raw::kozbrax_server(
+            settings.servers,
+            settings.own,
+            settings.log.as_ptr(),
+            settings.users.as_ptr(),
+            settings.users.len(),
+            head.as_mut_ptr(),
+            store.as_mut_ptr(),
+            store.len(),
+            used,
+            request.as_ptr(),
+            request.len(),
+            answer.as_mut_ptr(),
+            answer.len(),
+        )
     }
 }

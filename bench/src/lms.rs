@@ -93,15 +93,16 @@ fn not_valid(key: &[u8], text: &[u8], signature: &[u8], what: &str) {
     assert_eq!(checked(key, text, signature, what), NO, "accepted: {what}");
 }
 
-struct Key {
+/// A key that both sides agree on.
+pub struct Key {
     seed: [u8; 32],
     id: [u8; 16],
     tree: Vec<u8>,
-    public: Vec<u8>,
+    pub public: Vec<u8>,
 }
 
 impl Key {
-    fn new(n: u64) -> Key {
+    pub fn new(n: u64) -> Key {
         Key::of(array(1000 + n), array(2000 + n))
     }
 
@@ -115,7 +116,8 @@ impl Key {
         Signer { seed: &self.seed, id: &self.id, number, randomizer }
     }
 
-    fn signed(&self, number: u32, randomizer: &[u8; 32], text: &[u8]) -> Vec<u8> {
+    /// The signature that both sides make.
+    pub fn signed(&self, number: u32, randomizer: &[u8; 32], text: &[u8]) -> Vec<u8> {
         let signer = self.signer(number, randomizer);
         let tree = self.tree.clone();
         let what = format!("signature, number {number}, text of {} bytes", text.len());

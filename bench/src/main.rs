@@ -4,17 +4,21 @@ mod library;
 mod lms;
 mod plain;
 mod plain_lms;
+mod plain_server;
 mod sample;
+mod server;
 mod stack;
 mod timing;
 
 fn main() {
     let subject = std::env::args().nth(1).unwrap_or_default();
+    let seed = std::env::args().nth(2).map_or(1, |seed| seed.parse().expect("the seed is a number"));
     match subject.as_str() {
         "hash" => hash::run(),
         "lms" => lms::run(),
+        "server" => server::run(seed),
         _ => {
-            eprintln!("usage: cargo run --release -- SUBJECT, where SUBJECT is: hash, lms");
+            eprintln!("usage: cargo run --release -- SUBJECT, where SUBJECT is: hash, lms, server [SEED]");
             std::process::exit(2);
         }
     }

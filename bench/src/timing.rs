@@ -34,8 +34,8 @@ impl Clock {
 pub struct Race {
     clock: Clock,
     calls: u32,
-    best: (f64, f64),
-    ratios: Vec<f64>,
+    /// The seconds that a call of each side took, round by round.
+    rounds: Vec<(f64, f64)>,
 }
 
 impl Race {
@@ -45,33 +45,43 @@ impl Race {
         while seconds_for_a_call(clock, calls, &mut side) * f64::from(calls) < ROUND_SECONDS {
             calls *= 2;
         }
-        Race { clock, calls, best: (f64::INFINITY, f64::INFINITY), ratios: Vec::new() }
+        Race { clock, calls, rounds: Vec::new() }
     }
 
     /// One round: calls of the one side and then of the other, which take turns to go first.
     pub fn round(&mut self, mut first: impl FnMut(), mut second: impl FnMut()) {
         let (a, b);
-        if self.ratios.len() & 1 == 0 {
+        if self.rounds.len() & 1 == 0 {
             a = seconds_for_a_call(self.clock, self.calls, &mut first);
             b = seconds_for_a_call(self.clock, self.calls, &mut second);
         } else {
             b = seconds_for_a_call(self.clock, self.calls, &mut second);
             a = seconds_for_a_call(self.clock, self.calls, &mut first);
         }
-        self.best = (self.best.0.min(a), self.best.1.min(b));
-        self.ratios.push(b / a);
+        self.rounds.push((a, b));
+    }
+
+    /// The seconds for a call on the best round of each side.
+    pub fn best(&self) -> (f64, f64) {
+        let least = |times: &mut dyn Iterator<Item = f64>| times.fold(f64::INFINITY, f64::min);
+        let rounds = self.rounds.iter();
+        (least(&mut rounds.clone().map(|round| round.0)), least(&mut rounds.map(|round| round.1)))
+    }
+
+    /// The seconds for a call of each side: the medians of the rounds.
+    pub fn medians(&self) -> (f64, f64) {
+        let rounds = self.rounds.iter();
+        (median(rounds.clone().map(|round| round.0)), median(rounds.map(|round| round.1)))
     }
 
     /// The second side's time over the first's in the same round: the median of the rounds.
     fn median_ratio(&self) -> f64 {
-        let mut ratios = self.ratios.clone();
-        ratios.sort_by(f64::total_cmp);
-        ratios[ratios.len() / 2]
+        median(self.rounds.iter().map(|(a, b)| b / a))
     }
 
     /// A line with the compressions a second of the library, which was the first side, and of plain Rust.
     pub fn print(&self, name: &str, compressions: u64) {
-        let (library, plain) = self.best;
+        let (library, plain) = self.best();
         println!(
             "  {name:>14}  library {:>9.0}  plain {:>9.0}  ratio {:.3}  median of the rounds' ratios {:.3}",
             compressions as f64 / library,
@@ -80,6 +90,12 @@ impl Race {
             self.median_ratio(),
         );
     }
+}
+
+fn median(values: impl Iterator<Item = f64>) -> f64 {
+    let mut values: Vec<f64> = values.collect();
+    values.sort_by(f64::total_cmp);
+    values[values.len() / 2]
 }
 
 fn seconds_for_a_call(clock: Clock, calls: u32, f: &mut impl FnMut()) -> f64 {
