@@ -121,7 +121,7 @@ module _ (s : Settings) (H : ℕ) (named : length (s .log) ≡ 16)
     unfolding readNext
     read-taken-ok r a h =
         by-taken s (u .kept) r (readLent m) a (λ l. Noted (outcome l .events) → Good (outcome l)) (λ z n. refused-ok _ a r _ z)
-        (λ t e.
+        (λ t l e.
         ends-ok (next s (u .kept) r (readLent m) a) (collected s (u .kept) r (readLent m) a) (t .some) (t .within) (next-small s (u .kept) r (readLent m) a t h)
         (rw (entry-kept s (u .kept) r (readLent m) a) (t .room)) e)
         (λ t n. asks-ok (next s (u .kept) r (readLent m) a) (collected s (u .kept) r (readLent m) a) (next-small s (u .kept) r (readLent m) a t h))
