@@ -46,20 +46,16 @@ fn before(a: u8) -> usize
     (a as usize + 1) % 2
 }
 
-// The author of position p: users 1 and 2 in turn.
-pub fn author_of(p: u32) -> u16 {
-    (2 - p % 2) as u16
-}
-
 // The entry of position p, which is at most 5.
-pub fn entry(p: u32) -> [u8; 8] {
+fn entry(p: u32) -> [u8; 8] {
     let n = b'0' + (p % 10) as u8;
     [1, b'e', b'n', b't', b'r', b'y', b' ', n]
 }
 
+// The leaf of position p: users 1 and 2 write in turn.
 fn leaf(p: u32) -> [u8; 32] {
     let e = entry(p);
-    digest::leaf(author_of(p), &e)
+    digest::leaf((2 - p % 2) as u16, &e)
 }
 
 // The leaves of positions 1 to 5.
@@ -74,13 +70,13 @@ fn leaves() -> [u8; 160] {
 }
 
 // The digest of the first p entries.
-pub fn digest_of(p: u32) -> [u8; 32] {
+fn digest_of(p: u32) -> [u8; 32] {
     let all = leaves();
     digest::block_digest(&all, p)
 }
 
 // The hash of node (p, l), where it is full: of the last 2^l of the first p entries.
-pub fn node_of(p: u32, l: u8) -> [u8; 32] {
+fn node_of(p: u32, l: u8) -> [u8; 32] {
     let all = leaves();
     let n = 1 << (l % 32);
     if p < n {
@@ -89,42 +85,54 @@ pub fn node_of(p: u32, l: u8) -> [u8; 32] {
     digest::block_digest(bytes::from(&all, 32 * (p - n) as usize), n)
 }
 
-// A request with a body of one hash: Reserve (5) or PutNode (7).
-pub fn with_hash(kind: u8, author: u16, p: u32, l: u8, hash: [u8; 32]) -> [u8; 58] {
-    let mut q = [0u8; 58];
-    message::put_request(&mut q, kind, LOG, author, p, l, &hash);
-    q
+// Writes the request that a line says to the front of q, and answers its length.
+pub fn request(f: [u32; 16], trees: &[u8], q: &mut [u8]) -> u32 {
+    let body = f[6];
+    let d = f[7];
+    if body == 1 {
+        put(f, &digest_of(d), q);
+        return 58;
+    }
+    if body == 2 {
+        put(f, &entry(d), q);
+        return 34;
+    }
+    if body == 3 {
+        put(f, &node_of(f[4], (f[5] % 256) as u8), q);
+        return 58;
+    }
+    if body == 4 {
+        put(f, &signed(f, trees), q);
+        return 2566;
+    }
+    put(f, &[7u8; 2540], q);
+    26
 }
 
-// PutOperation of an entry of 8 bytes.
-pub fn put_operation(author: u16, p: u32, e: [u8; 8]) -> [u8; 34] {
-    let mut q = [0u8; 34];
-    message::put_request(&mut q, 6, LOG, author, p, 0, &e);
-    q
+// Writes the request with this body.
+fn put(f: [u32; 16], body: &[u8], q: &mut [u8]) {
+    let kind = (f[2] % 256) as u8;
+    let author = (f[3] % 65536) as u16;
+    message::put_request(q, kind, LOG, author, f[4], (f[5] % 256) as u8, body);
 }
 
-// Commit, signed with a key's signature of that number, which also makes up the randomizer.
-pub fn commit(
-    author: u16,
-    p: u32,
-    l: u8,
-    digest: [u8; 32],
-    key: u8,
-    number: u8,
-    trees: &[u8],
-) -> [u8; 2566] {
-    let mut q = [0u8; 2566];
-    message::put_request(&mut q, 8, LOG, author, p, l, &digest);
-    let text = message::signed_text(LOG, p, digest);
+// The body of a Commit: the digest, and a key's signature of that number, which also makes up the randomizer.
+fn signed(f: [u32; 16], trees: &[u8]) -> [u8; 2540] {
+    let key = (f[8] % 256) as u8;
+    let digest = digest_of(f[7]);
+    let text = message::signed_text(LOG, f[4], digest);
+    let mut body = [0u8; 2540];
+    bytes::put(&mut body, 0, &digest);
+    let randomizer = [(f[9] % 256) as u8; 32];
     let tree = bytes::from(trees, 65504 * before(key));
     lms::sign(
         [key; 32],
         [key; 16],
-        number as u32,
-        [number; 32],
+        f[9],
+        randomizer,
         &text,
         tree,
-        &mut q[58..],
+        &mut body[32..],
     );
-    q
+    body
 }

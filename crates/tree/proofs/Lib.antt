@@ -1,4 +1,5 @@
 -- laws
+pub mod ByteLaws
 pub mod Cases
 pub mod Levels
 pub mod Labels

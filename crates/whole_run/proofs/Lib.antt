@@ -1,12 +1,10 @@
 -- the proof of the claim
 pub mod Histories
-pub mod Passed
 pub mod Updating
 pub mod Requests
 pub mod Views
 pub mod States
 pub mod UpdateSteps
-pub mod Writing
 pub mod WriteSteps
 pub mod Opening
 pub mod WriteStart

@@ -25,15 +25,17 @@ use Rattle.user.specs.declared.call.Write.{Write}
 use Rattle.user.specs.Asking.{requestRoom, refused, done, asking}
 use Rattle.user.specs.Update.{UpdateLeft, updateNext, updateCollected, updateEnded, updateRefused, updateGoes, updateTaken, arrived}
 use Rattle.user.specs.Write.{WriteLent, WriteLeft, withHashes, withPath, withUpdate, openedAt, ownLeaf, pathDigest, heldEntry, commitNumber, writeRefused, writeAsks, writeWaits, writeOpens, writeUpdates, opening}
-use Rattle.whole_run.specs.World.{Event, hashed, signed, allHashed, Lent, Sent, Reading, User, Outcome, coverStrings, afterWrite, openingHashed, writeSigned, writeAccepted, writeLent, recordAccepted}
-use Rattle.whole_run.proofs.Passed.{path-top, or-cases}
+use Rattle.whole_run.specs.World.{Event, hashed, signed, allHashed, Lent, Sent, Reading, User, Outcome, sentBy, coverStrings, afterWrite, openingHashed, writeSigned, writeAccepted, writeLent, recordAccepted}
+use Rattle.tree.proofs.Paths.{path-top}
+use Rattle.user.proofs.Passed.{or-cases}
 use Rattle.whole_run.proofs.Updating
-use Rattle.whole_run.proofs.Updating.{Taken, by-taken, by-goes, endedLeft, askingLeft, arrives, record-not-last}
+use Rattle.user.proofs.UpdateRules.{Taken, by-taken, by-goes, endedLeft, askingLeft, record-not-last}
+use Rattle.whole_run.proofs.Updating.{arrives}
 use Rattle.whole_run.proofs.States
 use Rattle.whole_run.proofs.States.{NoneSigned, noted-in}
 use Rattle.whole_run.proofs.UpdateSteps
 use Rattle.whole_run.proofs.UpdateSteps.{arrived-ok, record-signed, noted-left, noted-right}
-use Rattle.whole_run.proofs.Writing.{by-opening, openedLeft, laid, reserve-sent, commit-late}
+use Rattle.user.proofs.WriteRules.{by-opening, openedLeft, laid, reserve-sent, commit-late}
 use Rattle.whole_run.proofs.WriteSteps.{writeEvents, only-signed, signed-is}
 
 -- what an Update that has ended makes of the kept state
@@ -139,7 +141,7 @@ module _ (s : Settings) (H : ℕ) (named : length (s .log) ≡ 16)
         next-is : UpdateOk (u .kept .version) next
         next-is =
             Updating.next-ok s H named S G A free (u .kept) (w .update) (m .hashes) (m .request) a t ok
-            (λ e. absurd (record-not-last s H named S G A free (u .kept) (w .update) (m .hashes) (m .request) a t ok ends e))
+            (λ e. absurd (record-not-last s (u .kept) (w .update) (m .hashes) (m .request) a t (ok .above) ends e))
 
         asked-all : s .servers ≤ next .asked
         unfolding updateEnded
@@ -191,7 +193,7 @@ module _ (s : Settings) (H : ℕ) (named : length (s .log) ≡ 16)
             opening-hashed (u .kept .version) (K .version) collected entryLeaf leaf-sized (rw shut at h .hashes)
 
         opens-ok : suc (K .version) ≤ 1048576 → Noted (outcome left .events) → Good (outcome left)
-        unfolding afterWrite writeAsks asking opening pathDigest ownLeaf
+        unfolding afterWrite writeAsks asking opening pathDigest ownLeaf sentBy
         opens-ok within n =
             let x = hashed-now n in
             let r = ready (x .0) in

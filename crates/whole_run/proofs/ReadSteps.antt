@@ -29,99 +29,9 @@ use Rattle.user.specs.Asking.{setupChecks, requestRoom, ofNode, headed, isAnswe
 use Rattle.user.specs.Read
 use Rattle.user.specs.Read.{ReadLent, ReadLeft, readWith, readHashes, readHeld, readCount, readWant, readChecks, freshRead, readAsks, readRefused, readStarted, readNext, heldText, textAuthor, textEntry, readOver, readGives, readEarly, readCollected, readEnds, readTaken}
 use Rattle.whole_run.specs.World.{Event, Lent, Reading, User, Outcome, returned, newReads, afterRead, readHashed, readLent}
-use Rattle.whole_run.proofs.Passed.{InRange, setup-passed, answer-passed}
+use Rattle.user.proofs.ReadRules.{by-taken, next, collected, next-small, entry-kept, handed, held-small, read-given}
 use Rattle.whole_run.proofs.States
 use Rattle.whole_run.proofs.States.{NoneSigned, none-of-none, none-hashed, none-cond, noted-in}
-
--- an Operation's answer brings at most 1,026 bytes
-answer-body : (w : Want) (a : List ℕ) → isAnswer w a ≡ true → answerCode a ≡ 0 → bodyFits (w .kind) (length a - 10) ≡ true
-unfolding isAnswer
-answer-body w a e z =
-    let x = and-true (headed w a) (leb (answerCode a) 9 && cond (eqb (answerCode a) 0) (bodyFits (w .kind) (length a - 10)) (eqb (length a) 10)) e in
-    let y = and-true (leb (answerCode a) 9) _ (x .1) in
-    rw (eq-eqb (answerCode a) 0 z) at (y .1)
-
-operation-small : (n : ℕ) → bodyFits 3 n ≡ true → n ≤ 1026
-unfolding bodyFits
-operation-small n e = leb-true n 1026 (and-true (leb 3 n) _ e .1)
-
--- what an answer that a Read took with code 0 has passed
-pub record Taken (s : Settings) (k : Kept) (r : Read) (m : ReadLent) (a : List ℕ) : Type 0 where
-  pub some : 1 ≤ r .position
-  pub within : r .position ≤ k .version
-  pub room : 1024 ≤ length (m .entry)
-  pub shaped : isAnswer (readWant (s .servers) (k .version) r) a ≡ true
-  pub code : answerCode a ≡ 0
-
-module _ (s : Settings) (k : Kept) (r : Read) (m : ReadLent) (a : List ℕ) where
-  abbrev pub next : Read
-  next = readNext r (answerBody a)
-
-  abbrev pub collected : ReadLent
-  collected = readCollected s k r m a
-
-  abbrev pub ends : Bool
-  ends = leb (readCount (r .position) (k .version)) (next .asked)
-
-  abbrev pub code : ℕ
-  code = firstCode (readEarly s k r m a ++ (on 23 (not ends || readGives k next (collected .hashes) (collected .held)) ∷ []))
-
-  passed : code ≡ 0 → Taken s k r m a × (not ends || readGives k next (collected .hashes) (collected .held) ≡ true)
-  unfolding readEarly readChecks setupChecks answerChecks
-  passed e =
-      let x = setup-passed s k (requestRoom (m .request) && leb 1024 (length (m .entry))) _ e in
-      let y = check-passes 24 (leb 1 (r .position) && leb (r .position) (k .version)) _ (λ z. omega arith) (x .2) in
-      let b = and-true (leb 1 (r .position)) _ (y .0) in
-      let z = answer-passed (ltb (r .asked) (readCount (r .position) (k .version))) (readWant (s .servers) (k .version) r) a _ (y .1) in
-      let w = check-passes 23 (not ends || readGives k next (collected .hashes) (collected .held)) [] (λ z. omega arith) (z .rest) in (
-        record {
-          some = leb-true 1 (r .position) (b .0);
-          within = leb-true (r .position) (k .version) (b .1);
-          room = leb-true 1024 (length (m .entry)) (and-true (requestRoom (m .request)) _ (x .1) .1);
-          shaped = z .shaped;
-          code = z .code;
-        },
-        w .0,
-      )
-
-  -- an answer is refused, or it was the last one, or the next node is asked for
-  pub by-taken : (P : ReadLeft → Type 0) → ((code ≡ 0 → ⊥) → P (readRefused code a r collected))
-      → (Taken s k r m a → readGives k next (collected .hashes) (collected .held) ≡ true → P (readEnds next collected))
-      → (Taken s k r m a → P (readAsks s k next collected)) → P (readTaken s k r m a)
-  unfolding readTaken
-  by-taken P f g h =
-      by-eqb (λ b. P (cond b (cond ends (readEnds next collected) (readAsks s k next collected)) (readRefused code a r collected))) code 0
-      (λ e.
-      let x = passed e in
-      by-bool (λ b. not b || readGives k next (collected .hashes) (collected .held) ≡ true → P (cond b (readEnds next collected) (readAsks s k next collected))) ends
-      (λ _ y. g (x .0) y) (λ _ y. h (x .0)) (x .1))
-      (λ n. f n)
-
-  next-small : Taken s k r m a → r .length ≤ 1026 → next .length ≤ 1026
-  unfolding readNext readWant ofNode
-  next-small t h =
-      let b = answer-body (readWant (s .servers) (k .version) r) a (t .shaped) (t .code) in
-      cases-eq (r .asked) 0
-      (λ z.
-      let x : length (drop 10 a) ≡ length a - 10 = length-drop 10 a in
-      let y : length a - 10 ≤ 1026 = operation-small (length a - 10) (rw (eq-eqb (r .asked) 0 z) at b) in
-      rw (eq-eqb (r .asked) 0 z) (omega arith))
-      (λ n. rw (ne-eqb (r .asked) 0 n) h)
-
-  -- the buffer for the entry stays until the end
-  pub entry-kept : collected .entry ≡ m .entry
-  unfolding readCollected
-  entry-kept =
-      by-eqb (λ b. cond {A = ReadLent} b (readWith m (readHashes r (answerBody a) (m .hashes)) (readHeld r (answerBody a) (m .held)) (m .request)) m .entry ≡ m .entry)
-      (firstCode (readEarly s k r m a)) 0 (λ _. refl) (λ _. refl)
-
--- what is handed back of a text that fits its buffer
-handed : (text buffer : List ℕ) → length text ≤ length buffer → take (length text) (written buffer 0 text) ≡ text
-handed text buffer h = ap (take (length text)) (written-fits buffer 0 text (omega arith)) ∙ take-at text _ (length text) refl
-
-held-small : (r : Read) (held : List ℕ) → r .length ≤ 1026 → length (textEntry (heldText r held)) ≤ 1024
-unfolding textEntry heldText
-held-small r held h = omega (arith, length-drop 2 (take (r .length) held), length-take (r .length) held)
 
 -- a Read signs nothing
 read-signs-nothing : (v : ℕ) (l : ReadLeft) → NoneSigned (readHashed v l)
@@ -146,14 +56,14 @@ module _ (s : Settings) (H : ℕ) (named : length (s .log) ≡ 16)
   read-ok : (k : Kept) (r : Read) (hashes held : List ℕ) → 1 ≤ r .position → r .position ≤ k .version → readGives k r hashes held ≡ true
       → AllIn S (readOver (k .version) r hashes held)
       → ReadOk (k .version) (k .digest) (record { position = r .position; author = textAuthor (heldText r held); entry = textEntry (heldText r held) })
-  unfolding readGives readOver
+  unfolding readOver
   read-ok k r hashes held some within e x =
       record {
         some = some;
         within = within;
         true-read = λ f h d.
             let t = read-gives-leaf S free (r .position) (k .version) hashes (heldText r held) f some within x
-            (h .hashed (k .version) (omega arith) (omega arith)) (eqs-true _ _ e ∙ sym d) in
+            (h .hashed (k .version) (omega arith) (omega arith)) (read-given k r hashes held e ∙ sym d) in
             (ap textAuthor (sym t), ap textEntry (sym t));
       }
 
@@ -211,7 +121,7 @@ module _ (s : Settings) (H : ℕ) (named : length (s .log) ≡ 16)
     unfolding readNext
     read-taken-ok r a h =
         by-taken s (u .kept) r (readLent m) a (λ l. Noted (outcome l .events) → Good (outcome l)) (λ z n. refused-ok _ a r _ z)
-        (λ t e.
+        (λ t l e.
         ends-ok (next s (u .kept) r (readLent m) a) (collected s (u .kept) r (readLent m) a) (t .some) (t .within) (next-small s (u .kept) r (readLent m) a t h)
         (rw (entry-kept s (u .kept) r (readLent m) a) (t .room)) e)
         (λ t n. asks-ok (next s (u .kept) r (readLent m) a) (collected s (u .kept) r (readLent m) a) (next-small s (u .kept) r (readLent m) a t h))

@@ -28,7 +28,7 @@ use Rattle.user.specs.declared.ask.Want.{Want}
 use Rattle.user.specs.Asking.{requestRoom, ofNode, ofStatus, asks}
 use Rattle.user.specs.Update.{updateWant}
 use Rattle.user.specs.Write.{Key, WriteLent, entryFits, commitNumber, pathDigest, writeKind, writeLevel, writeBody, heldEntry, writeRoom, signsNext, writeSignature}
-use Rattle.whole_run.proofs.Passed.{by-cond, sent-is}
+use Rattle.user.proofs.Passed.{by-cond, sent-is}
 
 -- a request's kind and position, read back; its other fields may be of any size
 asks-kind : (s : Settings) (w : Want) (body : List ℕ) → w .kind < 256 → requestKind (asks s w body) ≡ w .kind

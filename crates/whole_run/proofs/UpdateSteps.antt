@@ -23,9 +23,10 @@ use Rattle.user.specs.Asking.{requestRoom, refused, done, asking}
 use Rattle.user.specs.Update.{UpdateLeft, freshUpdate, updateNext, updateCollected, updateEnded, updateSetup, updateGoes, updateRefused, updateStarted, updateTaken, arrived}
 use Rattle.whole_run.specs.World.{Event, Reading, accepted, hashed, allHashed, Lent, idle, updating, User, Outcome, returned, coverStrings, afterUpdate, updateHashed, recordAccepted, sentBy}
 use Rattle.whole_run.proofs.Histories
-use Rattle.whole_run.proofs.Passed.{InRange, setup-passed}
+use Rattle.user.proofs.Passed.{InRange, setup-passed}
 use Rattle.whole_run.proofs.Updating
-use Rattle.whole_run.proofs.Updating.{Taken, by-taken, by-goes, endedLeft, askingLeft, next-ok, arrives}
+use Rattle.user.proofs.UpdateRules.{Taken, by-taken, by-goes, endedLeft, askingLeft}
+use Rattle.whole_run.proofs.Updating.{next-ok, arrives}
 use Rattle.whole_run.proofs.States
 use Rattle.whole_run.proofs.States.{NoneSigned, none-of-none, none-hashed, none-accepted, none-append, none-cond, noted-in, reads-grow}
 

@@ -24,8 +24,8 @@ use Rattle.user.specs.Read.{ReadLeft}
 use Rattle.whole_run.specs.World.{Group, settingsOf, Event, Lent, Call, idle, updating, writing, reading, Sent, User, sentBy, returned, viewSent, afterUpdate, afterWrite, afterRead, writeLent, Input, startUpdate, startWrite, startRead, answer, taking, userStep}
 use Rattle.whole_run.specs.Runs.{Step, user, server, newUser, setup, withUser, withServer, step, run, FairInput, FairStep, Fair}
 use Rattle.whole_run.specs.Claim.{ViewIsVersion}
-use Rattle.whole_run.proofs.Passed.{setup-passed, answer-passed, by-cond}
-use Rattle.whole_run.proofs.Updating.{Above, next-above, by-taken, by-goes}
+use Rattle.user.proofs.Passed.{setup-passed, answer-passed, by-cond}
+use Rattle.user.proofs.UpdateRules.{Above, next-above, by-taken, by-goes}
 use Rattle.whole_run.proofs.Requests.{sent-kind, sent-position, update-kind, write-kind, reserve-first, body-short, entry-short, room-passed, signature-sized}
 
 -- an Update does not end before its last Status

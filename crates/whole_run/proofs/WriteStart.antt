@@ -16,13 +16,13 @@ use Rattle.user.specs.declared.call.Write.{Write}
 use Rattle.user.specs.Asking.{setupChecks, requestRoom, refused, done, asking}
 use Rattle.user.specs.Update.{freshUpdate, updateGoes}
 use Rattle.user.specs.Write.{WriteLent, WriteLeft, withHeld, ownLeaf, freshWrite, writeRefused, writeAsks, writeWaits, writeRoom, writeStartChecks, writeStarted}
-use Rattle.whole_run.specs.World.{Event, allHashed, Lent, Reading, User, Outcome, afterWrite, writeLent}
-use Rattle.whole_run.proofs.Passed.{InRange, setup-passed}
-use Rattle.whole_run.proofs.Updating.{by-goes, endedLeft, askingLeft}
+use Rattle.whole_run.specs.World.{Event, allHashed, Lent, Reading, User, Outcome, sentBy, afterWrite, writeLent}
+use Rattle.user.proofs.Passed.{InRange, setup-passed}
+use Rattle.user.proofs.UpdateRules.{by-goes, endedLeft, askingLeft}
 use Rattle.whole_run.proofs.States
 use Rattle.whole_run.proofs.States.{NoneSigned, none-of-none, none-hashed, none-cond}
 use Rattle.whole_run.proofs.UpdateSteps.{fresh-ok}
-use Rattle.whole_run.proofs.Writing.{reserve-sent, commit-late}
+use Rattle.user.proofs.WriteRules.{reserve-sent, commit-late}
 
 module _ (s : Settings) (H : ℕ) (named : length (s .log) ≡ 16)
     (S : List ℕ → Type 0) (G : ℕ → List ℕ → Type 0) (A : List ℕ → List ℕ → Type 0) (free : NoCollision S) where
@@ -53,7 +53,7 @@ module _ (s : Settings) (H : ℕ) (named : length (s .log) ≡ 16)
     ended-ok l e ek ep = record { user = record { state = rw (ek, ep) i; call = rw e tt }; signatures = λ b t x. absurd (signs-nothing l b t x) }
 
     resumes : u .kept .opened ≡ true → requestRoom (m .request) ≡ true → Good (started (writeAsks s (u .kept) fresh held))
-    unfolding afterWrite writeAsks asking freshWrite
+    unfolding afterWrite writeAsks asking freshWrite sentBy
     resumes o room =
         record {
           user = record {

@@ -26,12 +26,12 @@ use Rattle.user.specs.Write.{WriteLent, WriteLeft, withSignature, openedAt, com
 use Rattle.whole_run.specs.World.{Event, signed, Lent, Sent, Reading, User, Outcome, sentBy, afterWrite, openingHashed, writeSigned, writeAccepted, writeLent, recordAccepted, returned}
 use Rattle.whole_run.proofs.Histories
 use Rattle.whole_run.proofs.Histories.{extend, extend-old, held-longer, held-agree}
-use Rattle.whole_run.proofs.Passed.{InRange, or-cases}
+use Rattle.user.proofs.Passed.{InRange, or-cases}
 use Rattle.whole_run.proofs.States
 use Rattle.whole_run.proofs.States.{NoneSigned, none-of-none, none-hashed, none-append, none-cond}
 use Rattle.whole_run.proofs.UpdateSteps
 use Rattle.whole_run.proofs.UpdateSteps.{record-signs-nothing}
-use Rattle.whole_run.proofs.Writing.{Going, by-going, reserve-sent, commit-late}
+use Rattle.user.proofs.WriteRules.{signs-last, Going, by-going, reserve-sent, commit-late}
 
 -- of a Write's events only `writeSigned` has a signature
 opening-signs-nothing : (s : Settings) (v : ℕ) (w : Write) (l : WriteLeft) → NoneSigned (openingHashed s v w l)
@@ -156,8 +156,7 @@ module _ (s : Settings) (H : ℕ) (named : length (s .log) ≡ 16)
       lent = writeLent u m
 
       commits-next : signsNext (u .kept) w ≡ true → suc (w .asked) ≡ commitNumber p
-      unfolding signsNext
-      commits-next e = eqb-true (suc (w .asked)) (commitNumber p) (and-true (eqb (suc (w .asked)) (commitNumber p)) _ e .0)
+      commits-next e = signs-last (u .kept) w e
 
       -- the Commit was accepted
       committed-ok : w .asked ≡ commitNumber p
@@ -212,7 +211,7 @@ module _ (s : Settings) (H : ℕ) (named : length (s .log) ≡ 16)
           either-way false = refl
 
       next-ok : (w .asked ≡ commitNumber p → ⊥) → Noted (outcome w a nextLeft .events) → Good (outcome w a nextLeft)
-      unfolding afterWrite writeAsks asking signing
+      unfolding afterWrite writeAsks asking signing sentBy
       next-ok ne n =
           let open-write = i .open-write (g .opened) in
           record {

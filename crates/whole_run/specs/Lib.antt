@@ -2,3 +2,4 @@
 pub mod World
 pub mod Runs
 pub mod Claim
+pub mod Sample

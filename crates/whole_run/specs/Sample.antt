@@ -1,0 +1,75 @@
+-- A computed run: on two servers, of which server 1 follows the rules, user 1 begins a write of position 1.
+use mathlib.Core.Path.{_≡_, refl}
+use mathlib.Core.List.{List, [], _∷_}
+use Prim.Native.Nat.{ℕ}
+use lib.ListN.{replicate}
+use Rattle.sha256.specs.Word.{¬32, SHL, SHR, ROTR, Ch, Maj, Σ0, Σ1, σ0, σ1}
+use Rattle.sha256.specs.Constants.{K, H0}
+use Rattle.sha256.specs.Block.{nextW, schedule, T1, T2, round, rounds, sums, compress}
+use Rattle.sha256.specs.Hash.{zeros, padding, pad, words, block, hashValue, bytes, sha256}
+use Rattle.tree.specs.Level as Le
+use Rattle.tree.specs.Label as La
+use Rattle.tree.specs.Expr as Ex
+use Rattle.tree.specs.Tree as Tr
+use Rattle.tree.specs.Cover as Co
+use Rattle.tree.specs.Message as Me
+use Rattle.tree.specs.Setup as Se
+use Rattle.sha256.specs.Bytes as By
+use Rattle.user.specs.Asking as As
+use Rattle.user.specs.Update as Up
+use Rattle.user.specs.Write as Wr
+use Rattle.server.specs.Shape as Sh
+use Rattle.server.specs.Store as St
+use Rattle.server.specs.Checks as Ch
+use Rattle.server.specs.Serve as Sv
+use Rattle.whole_run.specs.World as Wo
+use Rattle.whole_run.specs.Runs as Ru
+
+abbrev group : Wo.Group
+group = record { servers = 2; log = replicate 16 7; users = replicate 56 0; follows = 1 }
+
+abbrev memory : Wo.Lent
+memory =
+    record {
+      hashes = replicate 1248 0;
+      held = replicate 1026 0;
+      request = replicate 2566 0;
+      entry = replicate 1024 0;
+      key = record { id = replicate 16 0; seed = replicate 32 0; tree = replicate 65504 0 };
+    }
+
+-- The answer of a server to a Status, its head being (0, 0), and server 1's answer to the Reserve of (1, 0).
+abbrev fresh : ℕ → List ℕ
+fresh server = 75 ∷ 65 ∷ 1 ∷ server ∷ 0 ∷ 0 ∷ 0 ∷ 0 ∷ 0 ∷ 0 ∷ 0 ∷ 0 ∷ 0 ∷ 0 ∷ 0 ∷ []
+
+abbrev reserved : List ℕ
+reserved = 75 ∷ 65 ∷ 5 ∷ 1 ∷ 0 ∷ 0 ∷ 0 ∷ 1 ∷ 0 ∷ 0 ∷ []
+
+-- What user 1 has handed out last.
+abbrev out : List Ru.Step → List ℕ
+out xs = Ru.run group [] xs .users 1 .sent .bytes
+
+abbrev asks-server-1 : List Ru.Step
+asks-server-1 = Ru.user 1 (Wo.startWrite memory (1 ∷ 65 ∷ []) (replicate 32 0)) ∷ []
+
+abbrev server-1-answers : List Ru.Step
+server-1-answers = Ru.server (out asks-server-1) (replicate 2552 0) ∷ asks-server-1
+
+abbrev reserves : List Ru.Step
+reserves = Ru.user 1 (Wo.answer (fresh 2)) ∷ Ru.user 1 (Wo.answer (fresh 1)) ∷ server-1-answers
+
+abbrev server-1-reserves : List Ru.Step
+server-1-reserves = Ru.server (out reserves) (replicate 2552 0) ∷ reserves
+
+abbrev puts : List Ru.Step
+puts = Ru.user 1 (Wo.answer reserved) ∷ server-1-reserves
+
+-- Server 1 answers the Status of the empty log, and user 1, whose Update ends at p* = 0, hands out the first Reserve.
+first-reserve : (Ru.run group [] server-1-answers .log ≡ Wo.answered (out asks-server-1) (fresh 1) ∷ []) × (Me.requestKind (out reserves) ≡ 5)
+unfolding Le.leastFrom Le.reaches Le.lg Le.isFull Le.highestFull La.nodesTo La.label La.serverOf La.owner Ex.entryText Ex.leafString Ex.pairString Ex.halfString Ex.value Tr.tree Tr.blockOf Tr.node Co.fits Co.tileLevel Co.tilesIn Co.tiles Co.peaks Co.cover Co.piece Co.cut Co.covers Co.nodesBefore Co.fromCover Co.coverDigest Co.coverPath Co.pathBytes Co.pathWritten Me.requestHeader Me.request Me.answerHeader Me.answer Me.recordHeader Me.stored Me.signedText Se.userCount Se.userKey Se.listed Se.groupFits Se.inLog Se.firstCode By.be By.numberAt By.written By.eqs As.settingsFit As.keptFits As.setupChecks As.requestRoom As.ofNode As.ofStatus As.asks As.headed As.bodyFits As.isAnswer As.answerChecks As.refused As.done As.asking Up.freshUpdate Up.updateEnded Up.updateWant Up.toldPosition Up.toldLevel Up.toldLabel Up.headHolds Up.statusTaken Up.updateNext Up.updateHashes Up.recordHolds Up.coverGivesOwn Up.coverGivesNew Up.updateChecks Up.arrived Up.updateGoes Up.updateRefused Up.updateSetup Up.updateStarted Up.updateEarly Up.updateCollected Up.updateTaken Wr.strikes Wr.entryFits Wr.targetFits Wr.ownLeaf Wr.commitNumber Wr.writeKind Wr.writeLevel Wr.writeWant Wr.pathDigest Wr.writeBody Wr.writeRefused Wr.heldEntry Wr.writeAsks Wr.writeWaits Wr.writeRoom Wr.writeStartChecks Wr.freshWrite Wr.writeStarted Wr.openingChecks Wr.opening Wr.writeOpens Wr.writeUpdates Wr.signsNext Wr.writeChecks Wr.writeSignature Wr.signing Wr.committed Wr.writeGoes Wr.writeTaken Sh.levelFits Sh.nodeFits Sh.bodyFits Sh.requestFits Sh.recordFits St.recordLength St.recordsIn St.records St.sizes St.whole St.isFor St.first St.isStored St.bytesAt St.placeOr Ch.settingsFit Ch.headFits Ch.storeFits Ch.ownsNode Ch.reservable Ch.holdsHead Ch.commitHolds Ch.recordAsked Ch.recordKept Ch.noOther Ch.roomLeft Ch.nodeSource Ch.pullSource Ch.wantedKind Ch.sourceOf Ch.kindChecks Ch.setupChecks Ch.checksOver Ch.requestChecks Sv.headAfter Sv.appends Sv.storeAfter Sv.usedAfter Sv.nodeHash Sv.recordGiven Sv.bodyGiven Sv.headerGiven Sv.answerGiven Sv.refusedSetup Sv.served Sv.replyOf Wo.allHashed Wo.sentBy Wo.returned Wo.viewSent Wo.afterUpdate Wo.coverStrings Wo.updateHashed Wo.recordAccepted Wo.afterWrite Wo.openingHashed Wo.writeAccepted Wo.writeSigned Wo.newReads Wo.afterRead Wo.readHashed Wo.taking Wo.userStep Ru.newUser Ru.setup Ru.withUser Ru.serverEvents Ru.withServer Ru.step Ru.run ¬32 SHL SHR ROTR Ch Maj Σ0 Σ1 σ0 σ1 K H0 nextW schedule T1 T2 round rounds sums compress zeros padding pad words block hashValue bytes sha256
+first-reserve = (refl, refl)
+
+-- Server 1 accepts it, and user 1 goes on with the PutOperation.
+then-the-operation : (Ru.run group [] server-1-reserves .head .position ≡ 1) × (Me.requestKind (out puts) ≡ 6)
+unfolding Le.leastFrom Le.reaches Le.lg Le.isFull Le.highestFull La.nodesTo La.label La.serverOf La.owner Ex.entryText Ex.leafString Ex.pairString Ex.halfString Ex.value Tr.tree Tr.blockOf Tr.node Co.fits Co.tileLevel Co.tilesIn Co.tiles Co.peaks Co.cover Co.piece Co.cut Co.covers Co.nodesBefore Co.fromCover Co.coverDigest Co.coverPath Co.pathBytes Co.pathWritten Me.requestHeader Me.request Me.answerHeader Me.answer Me.recordHeader Me.stored Me.signedText Se.userCount Se.userKey Se.listed Se.groupFits Se.inLog Se.firstCode By.be By.numberAt By.written By.eqs As.settingsFit As.keptFits As.setupChecks As.requestRoom As.ofNode As.ofStatus As.asks As.headed As.bodyFits As.isAnswer As.answerChecks As.refused As.done As.asking Up.freshUpdate Up.updateEnded Up.updateWant Up.toldPosition Up.toldLevel Up.toldLabel Up.headHolds Up.statusTaken Up.updateNext Up.updateHashes Up.recordHolds Up.coverGivesOwn Up.coverGivesNew Up.updateChecks Up.arrived Up.updateGoes Up.updateRefused Up.updateSetup Up.updateStarted Up.updateEarly Up.updateCollected Up.updateTaken Wr.strikes Wr.entryFits Wr.targetFits Wr.ownLeaf Wr.commitNumber Wr.writeKind Wr.writeLevel Wr.writeWant Wr.pathDigest Wr.writeBody Wr.writeRefused Wr.heldEntry Wr.writeAsks Wr.writeWaits Wr.writeRoom Wr.writeStartChecks Wr.freshWrite Wr.writeStarted Wr.openingChecks Wr.opening Wr.writeOpens Wr.writeUpdates Wr.signsNext Wr.writeChecks Wr.writeSignature Wr.signing Wr.committed Wr.writeGoes Wr.writeTaken Sh.levelFits Sh.nodeFits Sh.bodyFits Sh.requestFits Sh.recordFits St.recordLength St.recordsIn St.records St.sizes St.whole St.isFor St.first St.isStored St.bytesAt St.placeOr Ch.settingsFit Ch.headFits Ch.storeFits Ch.ownsNode Ch.reservable Ch.holdsHead Ch.commitHolds Ch.recordAsked Ch.recordKept Ch.noOther Ch.roomLeft Ch.nodeSource Ch.pullSource Ch.wantedKind Ch.sourceOf Ch.kindChecks Ch.setupChecks Ch.checksOver Ch.requestChecks Sv.headAfter Sv.appends Sv.storeAfter Sv.usedAfter Sv.nodeHash Sv.recordGiven Sv.bodyGiven Sv.headerGiven Sv.answerGiven Sv.refusedSetup Sv.served Sv.replyOf Wo.allHashed Wo.sentBy Wo.returned Wo.viewSent Wo.afterUpdate Wo.coverStrings Wo.updateHashed Wo.recordAccepted Wo.afterWrite Wo.openingHashed Wo.writeAccepted Wo.writeSigned Wo.newReads Wo.afterRead Wo.readHashed Wo.taking Wo.userStep Ru.newUser Ru.setup Ru.withUser Ru.serverEvents Ru.withServer Ru.step Ru.run ¬32 SHL SHR ROTR Ch Maj Σ0 Σ1 σ0 σ1 K H0 nextW schedule T1 T2 round rounds sums compress zeros padding pad words block hashValue bytes sha256
+then-the-operation = (refl, refl)
