@@ -1,5 +1,6 @@
 -- laws
 pub mod Cases
+pub mod ByteLaws
 pub mod Levels
 pub mod Labels
 pub mod Agree
