@@ -4,7 +4,7 @@ use mathlib.Core.Bool.{Bool, true, false, _&&_}
 use Prim.Native.Nat.{ℕ, zero, suc, _≤_, _<_}
 use native.Mathlib.Omega.{arith}
 use lib.Dec.{leb, eqb}
-use Rattle.sha256.proofs.Cases.{by-bool}
+pub use Rattle.sha256.proofs.Cases.{by-bool}
 use borrow.Author.Tests.{leb-true, leb-false, eqb-true, eqb-false}
 
 pub by-leb {ℓ} : (P : Bool → Type ℓ) (a b : ℕ) → (a ≤ b → P true) → (b < a → P false) → P (leb a b)
