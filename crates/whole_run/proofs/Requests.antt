@@ -27,7 +27,7 @@ use Rattle.user.specs.declared.call.Write.{Write}
 use Rattle.user.specs.declared.ask.Want.{Want}
 use Rattle.user.specs.Asking.{requestRoom, ofNode, ofStatus, asks}
 use Rattle.user.specs.Update.{updateWant}
-use Rattle.user.specs.Write.{Key, WriteLent, entryFits, commitNumber, pathDigest, writeKind, writeLevel, writeBody, heldEntry, writeRoom, signsNext, writeSignature}
+use Rattle.user.specs.Write.{Key, WriteLent, entryFits, commitNumber, pathDigest, writeKind, writeLevel, writeBody, heldEntry, writeRoom, signsNext, commitSignature, writeSignature}
 use Rattle.user.proofs.Passed.{by-cond, sent-is}
 
 -- a request's kind and position, read back; its other fields may be of any size
@@ -101,7 +101,7 @@ room-passed key buffer e =
 pub signature-sized : (s : Settings) (k : Kept) (w : Write) (o : WriteLent) (key : Key) → length (o .signature) ≡ 2508
     → length (w .randomizer) ≡ 32 → 65504 ≤ length (key .tree) → not (signsNext k w) || ltb (k .number) 1024 ≡ true
     → length (writeSignature s k w o key) ≡ 2508
-unfolding writeSignature SignatureLength signatureSize treeSize
+unfolding writeSignature commitSignature SignatureLength signatureSize treeSize
 signature-sized s k w o key z random long free =
     by-cond (λ (q : List ℕ). length q ≡ 2508) (signsNext k w) _ _
     (λ e.
