@@ -91,7 +91,7 @@ module _ (s : Settings) (h : Head) (store : List ℕ) (used : ℕ) (q buffer : L
 
   -- the answer that is noted is the one that was given, and its code that of the call
   module _ (z : firstCode (setupChecks s h store used buffer) ≡ 0) where
-    all-given : take (after .out .answered) (after .answer) ≡ given s h store used q buffer
+    pub all-given : take (after .out .answered) (after .answer) ≡ given s h store used q buffer
     unfolding setupChecks
     all-given =
         let p = served-passed s h store used q buffer z in

@@ -1,4 +1,4 @@
--- the proof of the claim
+-- the proof of the claim about every list of steps
 pub mod Histories
 pub mod Updating
 pub mod Requests
@@ -13,3 +13,46 @@ pub mod Quiet
 pub mod Heads
 pub mod Steps
 pub mod Fork
+-- contracts and runs use the same definitions
+pub mod Contracts
+-- the honest run: what holds between its steps, and laws of its log, labels and keys
+pub mod HonestState
+pub mod HonestLog
+pub mod HonestHeads
+pub mod HonestKeys
+pub mod HonestNodes
+pub mod HonestCounts
+-- its servers
+pub mod HonestServed
+pub mod HonestRecords
+pub mod HonestServers
+pub mod HonestPulls
+pub mod HonestReserves
+pub mod HonestStores
+pub mod HonestRoom
+pub mod HonestPuts
+-- its users: Update and Read, then Write
+pub mod HonestAnswers
+pub mod HonestUpdates
+pub mod HonestStatus
+pub mod HonestContents
+pub mod HonestUpdateSteps
+pub mod HonestReads
+pub mod HonestBodies
+pub mod HonestOpening
+pub mod HonestWrites
+pub mod HonestSigning
+-- users and servers together: a call's start, each of its answers, and every list of calls
+pub mod HonestFrames
+pub mod HonestMoves
+pub mod HonestExchanges
+pub mod HonestCalls
+pub mod HonestStarts
+pub mod HonestWriteStarts
+pub mod HonestReadStarts
+pub mod HonestUpdateCalls
+pub mod HonestWriteCalls
+pub mod HonestOpenCalls
+pub mod HonestReadCalls
+pub mod HonestRun
+pub mod HonestTheorem

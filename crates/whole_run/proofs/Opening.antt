@@ -51,7 +51,7 @@ arrived-digest : (k : Kept) (c : Update) → 0 < c .position → arrived k c .di
 unfolding arrived
 arrived-digest k c z = rw (ne-eqb (c .position) 0 (λ e. omega arith))
 
-laid-length : (v w : ℕ) (hs : List ℕ) (e : Expr) (d : List ℕ) → length (pathWritten v w hs e d) ≡ length d
+pub laid-length : (v w : ℕ) (hs : List ℕ) (e : Expr) (d : List ℕ) → length (pathWritten v w hs e d) ≡ length d
 unfolding pathWritten
 laid-length v w hs e d =
     by-bool (λ b. length (cond b (written d 0 (pathBytes v w hs e (lg (suc w) + 1))) d) ≡ length d) (leb v w) (λ _. written-length d 0 _) (λ _. refl)

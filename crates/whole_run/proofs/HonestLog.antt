@@ -1,0 +1,64 @@
+-- The log's hashes: a path ends with the digest, and what is written later changes no hash.
+use mathlib.Core.Path.{_≡_, refl, ap, sym, _∙_, subst}
+use mathlib.Core.Bool.{true}
+use mathlib.Core.List.{List}
+use Prim.Native.Nat.{ℕ, suc, _-_, _*_, _/_, _^_, _≤_, _<_}
+use native.Mathlib.Nat.{div-add-mod', mod-lt}
+use native.Mathlib.Omega.{arith}
+use lib.ListN.{length}
+use lib.Pow.{pow-pos}
+use Rattle.lms.specs.Types.{LMOTS_SHA256_N32_W4, LMS_SHA256_M32_H10}
+use Rattle.lms.specs.Check.{checkOf, isValid}
+use Rattle.tree.specs.Level.{lg}
+use Rattle.tree.specs.Expr.{entryText, leaf, value}
+use Rattle.tree.specs.Tree.{leaves, digest, node, blockOf}
+use Rattle.tree.specs.Message.{signedText}
+use Rattle.tree.specs.Setup.{userKey}
+use Rattle.tree.proofs.Levels.{lg-ge}
+use Rattle.tree.proofs.Trees.{tree-cong}
+use Rattle.tree.proofs.Grows.{block-of-root}
+use Rattle.whole_run.specs.Honest.{Setup, publicTo}
+use Rattle.whole_run.proofs.HonestState.{Item, texts, hashOf, digestOf, SignedOk, ItemOk}
+
+-- the node at the end of a path is the digest
+pub top-is-digest : (L : ℕ → Item) (p : ℕ) → 0 < p → hashOf L p (lg p) ≡ digestOf L p
+unfolding node blockOf digest
+top-is-digest L p z =
+    let s : suc (p - 1) ≡ p = omega arith in
+    let e : (p - 1) / 2 ^ lg p * 2 ^ lg p ≡ 0 = rw s at (block-of-root (p - 1) (lg p) (rw s (lg-ge p))) in
+    let m : p - 0 ≡ p = omega arith in
+    rw (e, m)
+
+-- logs with the same first p texts have the same nodes of p, and the same digest
+pub same-hash : (L M : ℕ → Item) (p l : ℕ) → 0 < p → ((i : ℕ) → i < p → texts L i ≡ texts M i) → hashOf L p l ≡ hashOf M p l
+unfolding node blockOf
+same-hash L M p l z same =
+    let d = div-add-mod' (p - 1) (2 ^ l) in
+    let r = mod-lt (p - 1) (pow-pos l) in
+    let o = (p - 1) / 2 ^ l * 2 ^ l in
+    ap value (tree-cong (leaves (texts L)) (leaves (texts M)) l o (p - o) (omega arith) (omega arith) (λ i a b. ap leaf (same i (omega arith))))
+
+pub same-digest : (L M : ℕ → Item) (p : ℕ) → 0 < p → ((i : ℕ) → i < p → texts L i ≡ texts M i) → digestOf L p ≡ digestOf M p
+same-digest L M p z same = sym (top-is-digest L p z) ∙ same-hash L M p (lg p) z same ∙ top-is-digest M p z
+
+-- what was written before place w is the same in a log that differs from there on only
+pub items-stay : (c : Setup) (L M : ℕ → Item) (w : ℕ) → ((i : ℕ) → i < w → L i ≡ M i) → ((i : ℕ) → i < w → ItemOk c L i × SignedOk c L i)
+    → (i : ℕ) → i < w → ItemOk c M i × SignedOk c M i
+items-stay c L M w same items i h =
+    let x = items i h in
+    let d = same-digest L M (suc i) (omega arith) (λ j b. ap (λ (y : Item). entryText (y .author) (y .entry)) (same j (omega arith))) in
+    let e = same i h in (
+      record {
+        one = subst (λ (y : Item). 1 ≤ y .author) e (x .0 .one);
+        listed = subst (λ (y : Item). y .author ≤ c .count) e (x .0 .listed);
+        some = subst (λ (y : Item). 1 ≤ length (y .entry)) e (x .0 .some);
+        short = subst (λ (y : Item). length (y .entry) ≤ 1024) e (x .0 .short);
+      },
+      record {
+        size = subst (λ (y : Item). length (y .signature) ≡ 2508) e (x .1 .size);
+        valid =
+            subst (λ (δ : List ℕ). isValid (checkOf LMOTS_SHA256_N32_W4 LMS_SHA256_M32_H10 (userKey (publicTo c (c .count)) (M i .author)) (signedText (c .log) (suc i) δ) (M i .signature)) ≡ true) d
+            (subst (λ (y : Item). isValid (checkOf LMOTS_SHA256_N32_W4 LMS_SHA256_M32_H10 (userKey (publicTo c (c .count)) (y .author)) (signedText (c .log) (suc i) (digestOf L (suc i))) (y .signature)) ≡ true) e
+            (x .1 .valid));
+      },
+    )

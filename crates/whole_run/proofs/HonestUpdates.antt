@@ -1,0 +1,210 @@
+-- An Update in an honest run: when it ends, what it asks for, and what it has at its end.
+use mathlib.Core.Path.{_≡_, refl, sym, ap, _∙_, subst}
+use mathlib.Core.Bool.{Bool, true, false, _&&_, _||_}
+use mathlib.Core.List.{List}
+use Prim.Native.Nat.{ℕ, _+_, _-_, _≤_, _<_}
+use native.Mathlib.Omega.{arith}
+use lib.Count.{ones}
+use lib.Dec.{eqb, leb}
+use lib.ListN.{length, getD}
+use borrow.Author.Tests.{eq-eqb, ne-eqb, le-leb, lt-leb, leb-false, leb-true, eqb-true}
+use Rattle.tree.specs.Level.{lg}
+use Rattle.tree.specs.Label.{nodesTo}
+use Rattle.tree.specs.Tree.{leaves}
+use Rattle.tree.specs.Cover.{at, cover}
+use Rattle.tree.proofs.Cases.{positive, and-true, cases-le, cases-eq, not-both}
+use Rattle.tree.proofs.Counts.{own-length}
+use Rattle.tree.proofs.Honest.{TrueAnswers}
+use Rattle.tree.proofs.Tiles.{ones-of-zero}
+use Rattle.user.specs.declared.call.Kept.{Kept}
+use Rattle.user.specs.declared.call.Update.{Update}
+use Rattle.user.specs.Asking.{ofNode, ofStatus}
+use Rattle.user.specs.Update.{freshUpdate, updateEnded, updateWant, arrived}
+use Rattle.user.proofs.Passed.{or-cases}
+use Rattle.user.proofs.UpdateRules.{counted}
+use Rattle.user.proofs.Updates.{want-status, want-record, want-node}
+use Rattle.user.proofs.UpdateSteps.{arrived-nowhere, arrived-later}
+use Rattle.whole_run.specs.Honest.{Setup}
+use Rattle.whole_run.specs.HonestClaim.{updateAnswers}
+use Rattle.whole_run.proofs.HonestState.{Item, texts, digestOf, CanAsk, UpdateOk}
+use Rattle.whole_run.proofs.HonestHeads.{own-range, nodes-lt, nodes-zero}
+use Rattle.whole_run.proofs.HonestNodes.{FullNode, cover-node}
+use Rattle.whole_run.proofs.HonestAnswers.{node-asks, status-asks}
+
+-- an Update that has taken in no answer
+pub fresh-update : (n v w : ℕ) (L : ℕ → Item) (hashes : List ℕ) → 0 < n → UpdateOk n v w L freshUpdate hashes
+unfolding freshUpdate
+fresh-update n v w L hashes z =
+    record {
+      greatest-low = λ _. omega arith;
+      greatest-seen = λ _ h. let o = own-range n (nodesTo w) z .0 in absurd (omega arith);
+      position-is = λ _ e.
+          cases-eq w 0 (λ q. sym q) (λ q. let x = nodes-lt 0 w (omega (arith, q)) in let y = nodes-zero in absurd (omega arith));
+      least-near = λ _ h. absurd (omega arith);
+      position-later = λ h. absurd (omega arith);
+      digest-later = λ h. absurd (omega arith);
+      hashes-right = λ h. absurd (omega arith);
+    }
+
+-- it has not ended
+pub fresh-waits : (n v : ℕ) → 0 < n → updateEnded n v freshUpdate ≡ false
+unfolding updateEnded freshUpdate
+fresh-waits n v z = rw (ne-eqb 0 n (λ e. omega arith), lt-leb (n + 1 + length (cover v 0)) 0 (omega arith))
+
+-- neither of two tests holds
+or-neither : (a b : Bool) → a || b ≡ false → (a ≡ false) × (b ≡ false)
+or-neither true b e = not-both true refl e
+or-neither false b e = (refl, e)
+
+-- an Update that has not ended: p* is not 0 after the last Status, and hashes of the cover are missing
+pub waits-for : (n v : ℕ) (u : Update) → updateEnded n v u ≡ false
+    → (u .asked ≡ n → u .position ≡ 0 → ⊥) × (u .asked < n + 1 + length (cover v (u .position)))
+unfolding updateEnded
+waits-for n v u e =
+    let x = or-neither (eqb (u .asked) n && eqb (u .position) 0) _ e in (
+      λ a b. not-both (eqb (u .asked) n && eqb (u .position) 0) (rw (eq-eqb (u .asked) n a, eq-eqb (u .position) 0 b)) (x .0),
+      leb-false (n + 1 + length (cover v (u .position))) (u .asked) (x .1),
+    )
+
+-- both of two tests, where the second does not hold
+and-none : (a : Bool) → a && false ≡ false
+and-none true = refl
+and-none false = refl
+
+-- the stated count of answers, where nothing is committed
+answers-none : (n v w : ℕ) → w ≡ 0 → updateAnswers n v w ≡ n
+unfolding updateAnswers
+answers-none n v w z = rw (eq-eqb w 0 z) (omega arith)
+
+-- where entries are committed: N + 1 + cover
+answers-some : (n v w : ℕ) → (w ≡ 0 → ⊥) → updateAnswers n v w ≡ n + 1 + length (cover v w)
+unfolding updateAnswers
+answers-some n v w z = rw (ne-eqb w 0 z) (omega arith)
+
+-- each server is asked for its Status
+answers-low : (n v w : ℕ) → n ≤ updateAnswers n v w
+unfolding updateAnswers
+answers-low n v w = omega arith
+
+module _ (n v w : ℕ) (L : ℕ → Item) (u : Update) (hashes : List ℕ) (ok : UpdateOk n v w L u hashes) where
+  -- before the last Status an Update has not ended
+  ended-early : u .asked < n → updateEnded n v u ≡ false
+  unfolding updateEnded
+  ended-early h = rw (ne-eqb (u .asked) n (λ e. omega arith), lt-leb (n + 1 + length (cover v (u .position))) (u .asked) (omega arith))
+
+  -- later p* is w
+  ended-later : n ≤ u .asked → updateEnded n v u ≡ ((eqb (u .asked) n && eqb w 0) || leb (n + 1 + length (cover v w)) (u .asked))
+  unfolding updateEnded
+  ended-later h = ap (λ p. (eqb (u .asked) n && eqb p 0) || leb (n + 1 + length (cover v p)) (u .asked)) (ok .position-later h)
+
+  -- "Ends after N + 1 + cover answers, sooner at p* = 0"
+  pub ended-is : u .asked ≤ updateAnswers n v w → updateEnded n v u ≡ eqb (u .asked) (updateAnswers n v w)
+  ended-is h =
+      let x = n + 1 + length (cover v w) in
+      cases-le n (u .asked)
+      (λ i.
+      ended-later i
+      ∙ cases-eq w 0
+      (λ z. let e : u .asked ≡ n = omega (arith, answers-none n v w z) in rw (answers-none n v w z, z, e, eq-eqb n n refl))
+      (λ z.
+      rw (answers-some n v w z, ne-eqb w 0 z, and-none (eqb (u .asked) n))
+      (cases-eq (u .asked) x (λ e. le-leb x (u .asked) (omega arith) ∙ sym (eq-eqb (u .asked) x e))
+      (λ e. lt-leb x (u .asked) (omega (arith, answers-some n v w z)) ∙ sym (ne-eqb (u .asked) x e)))))
+      (λ i. ended-early i ∙ sym (ne-eqb (u .asked) (updateAnswers n v w) (λ e. omega (arith, answers-low n v w))))
+
+-- what an Update asks for may be asked
+pub update-asks : (c : Setup) (v w : ℕ) (L : ℕ → Item) (u : Update) (hashes : List ℕ) → UpdateOk (c .servers) v w L u hashes → v ≤ w
+    → updateEnded (c .servers) v u ≡ false → CanAsk c w (updateWant (c .servers) v u)
+update-asks c v w L u hashes ok vw e =
+    let n = c .servers in
+    let x = waits-for n v u e in
+    cases-le n (u .asked)
+    (λ h.
+    let p = ok .position-later h in
+    let few : u .asked < n + 1 + length (cover v w) = rw p at (x .1) in
+    cases-eq (u .asked) n
+    (λ q.
+    let r : ofNode 4 n (u .position) (lg (u .position)) ≡ updateWant n v u = want-record n v u _ h q refl in
+    let z : 1 ≤ u .position = positive (u .position) (x .0 q) in
+    subst (CanAsk c w) r
+    (node-asks c w 4 (u .position) (lg (u .position)) (omega arith) (omega arith) z (omega arith) (λ k. absurd (omega arith)) (λ k. absurd (omega arith)) (λ k. refl)))
+    (λ q.
+    let m = getD (cover v (u .position)) (u .asked - (n + 1)) (at 0 0) in
+    let r : ofNode 2 n (m .position) (m .level) ≡ updateWant n v u = want-node n v u _ m h q refl refl in
+    let f : FullNode w m = rw p (cover-node v w (u .asked - (n + 1)) vw (omega (arith, q))) in
+    subst (CanAsk c w) r
+    (node-asks c w 2 (m .position) (m .level) (omega arith) (omega arith) (f .low) (f .high) (λ k. f .full) (λ k. absurd (omega arith)) (λ k. absurd (omega arith)))))
+    (λ h.
+    let r : ofStatus (u .asked + 1) ≡ updateWant n v u = want-status n v u _ h refl in
+    subst (CanAsk c w) r (status-asks c w (u .asked + 1) (omega arith) (omega arith)))
+
+-- the cover of nothing
+pub cover-none : (v w : ℕ) → v ≤ w → w ≡ 0 → length (cover v w) ≡ 0
+cover-none v w h z =
+    let e : v ≡ 0 = omega arith in
+    let o : ones v ≡ 0 = rw e ones-of-zero in
+    omega (arith, own-length v w (omega arith))
+
+-- the end of an Update from what k keeps: p* is w, and the cover's hashes are the log's
+pub record Arrived (w : ℕ) (L : ℕ → Item) (k : Kept) (u : Update) (hashes : List ℕ) : Type 0 where
+  pub position : u .position ≡ w
+  pub version : arrived k u .version ≡ w
+  pub digest : 0 < w → arrived k u .digest ≡ digestOf L w
+  pub nothing : w ≡ 0 → (k .version ≡ 0) × (arrived k u ≡ k)
+  pub number : arrived k u .number ≡ k .number
+  pub opened : arrived k u .opened ≡ k .opened
+  pub signed : arrived k u .signed ≡ k .signed
+  pub answers : TrueAnswers (leaves (texts L)) (cover (k .version) w) hashes
+
+module _ (n w : ℕ) (L : ℕ → Item) (k : Kept) (u : Update) (hashes : List ℕ) (ok : UpdateOk n (k .version) w L u hashes) (vw : k .version ≤ w)
+    (e : updateEnded n (k .version) u ≡ true) where
+  -- every Status is in
+  all-status : n ≤ u .asked
+  unfolding updateEnded
+  all-status =
+      or-cases (eqb (u .asked) n && eqb (u .position) 0) _ e
+      (λ q. let x = eqb-true (u .asked) n (and-true (eqb (u .asked) n) _ q .0) in omega arith)
+      (λ q. let x = leb-true (n + 1 + length (cover (k .version) (u .position))) (u .asked) q in omega arith)
+
+  -- every hash of the cover is in
+  all-hashes : 0 < w → n + 1 + length (cover (k .version) w) ≤ u .asked
+  all-hashes z =
+      let p = ok .position-later all-status in
+      rw p at (counted n (k .version) u e (omega arith))
+
+  -- the hashes are those of the log's nodes
+  pub true-answers : TrueAnswers (leaves (texts L)) (cover (k .version) w) hashes
+  true-answers j h =
+      cases-eq w 0
+      (λ z. absurd (omega (arith, cover-none (k .version) w vw z)))
+      (λ z. let a = all-hashes (omega (arith, z)) in ok .hashes-right (omega arith) j (omega arith))
+
+  -- what is kept at the end
+  pub update-ends : Arrived w L k u hashes
+  update-ends =
+      let p = ok .position-later all-status in
+      cases-eq w 0
+      (λ z.
+      let same : arrived k u ≡ k = sym (arrived-nowhere k u (omega arith)) in
+      record {
+        position = p;
+        version = ap (λ (x : Kept). x .version) same ∙ (omega arith);
+        digest = λ h. absurd (omega arith);
+        nothing = λ _. (omega arith, same);
+        number = ap (λ (x : Kept). x .number) same;
+        opened = ap (λ (x : Kept). x .opened) same;
+        signed = ap (λ (x : Kept). x .signed) same;
+        answers = true-answers;
+      })
+      (λ z.
+      let new = sym (arrived-later k u (λ q. z (sym p ∙ q))) in
+      record {
+        position = p;
+        version = ap (λ (x : Kept). x .version) new ∙ p;
+        digest = λ h. ap (λ (x : Kept). x .digest) new ∙ ok .digest-later (let a = all-hashes h in omega arith);
+        nothing = λ q. absurd (z q);
+        number = ap (λ (x : Kept). x .number) new;
+        opened = ap (λ (x : Kept). x .opened) new;
+        signed = ap (λ (x : Kept). x .signed) new;
+        answers = true-answers;
+      })

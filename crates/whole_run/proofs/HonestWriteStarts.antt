@@ -1,0 +1,237 @@
+-- A valid Write of an honest run starts: with its Update where nothing is open, and at the first Reserve where its write is open.
+use mathlib.Core.Path.{_≡_, refl, ap, sym, _∙_, subst}
+use mathlib.Core.Bool.{true, false, cond}
+use mathlib.Core.List.{List, []}
+use Prim.Native.Nat.{ℕ, zero, suc, _+_, _≤_, _<_}
+use native.Mathlib.Omega.{arith}
+use native.Mathlib.Nat.{zero-add}
+use lib.ListN.{length}
+use Rattle.tree.specs.Level.{lg, highestFull}
+use Rattle.tree.specs.Bytes.{written}
+use Rattle.tree.proofs.ByteLaws.{written-length}
+use Rattle.tree.proofs.Cases.{not-both}
+use Rattle.sha256.proofs.Cases.{by-bool}
+use Rattle.user.specs.declared.call.Kept.{Kept}
+use Rattle.user.specs.declared.call.Write.{Write}
+use Rattle.user.specs.declared.ask.Want.{Want}
+use Rattle.user.specs.Asking.{asks, asking}
+use Rattle.user.specs.Update.{freshUpdate, updateWant}
+use Rattle.user.specs.Write.{Key, WriteLeft, WriteLent, entryFits, commitNumber, writeWant, withHeld, withRequest, withUpdate, heldEntry, freshWrite, writeWaits, writeAsks, writeStarted}
+use Rattle.user.proofs.UpdateRules.{askingLeft}
+use Rattle.user.proofs.Answers.{write-total}
+use Rattle.user.proofs.Writes.{commit-positive}
+use Rattle.whole_run.specs.World.{User, Lent, Input, startWrite, sentBy, writeLent, afterWrite, userStep}
+use Rattle.whole_run.specs.Honest.{Setup, InRange, keyOf, settingsIn, Network, steps, stepOf, Run, begins}
+use Rattle.whole_run.specs.HonestClaim.{NewWrite, ValidMemory, ValidInput, ValidCall, updateAnswers, writeAnswers, answersOf, countOf}
+use Rattle.whole_run.proofs.Requests.{entry-short}
+use Rattle.whole_run.proofs.HonestState.{Item, bodyAt, OpenOk}
+use Rattle.whole_run.proofs.HonestFrames.{sentFor, sent-for}
+use Rattle.whole_run.proofs.HonestKeys.{tree-size}
+use Rattle.whole_run.proofs.HonestAnswers.{Fit}
+use Rattle.whole_run.proofs.HonestUpdates.{fresh-update, fresh-waits}
+use Rattle.whole_run.proofs.HonestBodies.{body-small}
+use Rattle.whole_run.proofs.HonestOpening.{write-starts, entry-held}
+use Rattle.whole_run.proofs.HonestWrites.{asked-right, write-resumes}
+use Rattle.whole_run.proofs.HonestMoves.{withUser, none-open}
+use Rattle.whole_run.proofs.HonestCalls.{Updates, ToOpen, Opened, WriteCall, CallOk, Between, OnWay, Started}
+use Rattle.whole_run.proofs.HonestStarts.{fit-user, start-on-way, first-status}
+
+module _ (c : Setup) (range : InRange c) (r : Run) (a : ℕ) (m : Lent) (entry randomizer : List ℕ) (between : Between c r)
+    (valid : ValidCall c r a (startWrite m entry randomizer)) where
+  abbrev user : User
+  user = r .network .users a
+
+  abbrev lent : WriteLent
+  lent = writeLent user m
+
+  abbrev started : WriteLeft
+  started = writeStarted (settingsIn c a) (user .kept) lent entry randomizer (m .key)
+
+  abbrev n : ℕ
+  n = countOf c r a (startWrite m entry randomizer)
+
+  -- the arguments
+  record Given : Type 0 where
+    pub memory : ValidMemory m
+    pub key : m .key ≡ keyOf c a
+    pub random : length randomizer ≡ 32
+    pub fits : entryFits entry ≡ true
+    pub resumes : user .kept .opened ≡ true → entry ≡ r .begun a
+    pub new : user .kept .opened ≡ false → NewWrite c r (user .kept) entry
+
+  given : Given
+  unfolding ValidInput
+  given =
+      let i = valid .input in
+      record { memory = i .0; key = i .1; random = i .2; fits = i .3; resumes = i .4; new = i .5 }
+
+  fit : Fit c (between .log) (between .w) a (user .kept)
+  fit = fit-user c range (between .log) (between .w) (between .g) a (r .begun) (r .network) (valid .one) (valid .listed) (between .good)
+
+  whole : length (m .key .tree) ≡ 65504
+  whole = ap (λ (k : Key). length (k .tree)) (given .key) ∙ tree-size c a
+
+  short : length entry ≤ 1024
+  short = entry-short entry (given .fits)
+
+  abbrev fresh : Write
+  fresh = freshWrite (user .kept) entry randomizer
+
+  held : heldEntry fresh (written (m .held) 0 entry) ≡ entry
+  held = entry-held (user .kept) entry randomizer (m .held) (given .memory .held) short
+
+  -- where a start that leaves l is on its way
+  abbrev Goes : WriteLeft → Type 0
+  Goes l = OnWay c r a (startWrite m entry randomizer) n (withUser (r .network) a (afterWrite user m l) (r .network .servers))
+
+  -- nothing is open
+  module _ (shut : user .kept .opened ≡ false) where
+    abbrev waiting : WriteLeft
+    waiting = writeWaits (user .kept) fresh (withHeld lent (written (m .held) 0 entry)) (askingLeft (settingsIn c a) (user .kept) freshUpdate (m .hashes) (m .request))
+
+    new-is : started ≡ waiting
+    new-is =
+        write-starts (settingsIn c a) (user .kept) lent entry randomizer (m .key) (fit .settings-fit) (fit .kept-fit) (given .memory .request) whole (given .fits) shut (given .new shut .number)
+        ∙ ap (writeWaits (user .kept) fresh (withHeld lent (written (m .held) 0 entry))) (first-status c range a (user .kept) (m .hashes) (m .request))
+
+    abbrev next : User
+    next = afterWrite user m waiting
+
+    to-open : ToOpen c (between .log) (between .w) (between .g) a n entry next (r .network .servers) (withUpdate fresh freshUpdate)
+    unfolding afterWrite writeWaits answersOf updateAnswers freshUpdate
+    to-open =
+        let z : 0 < c .servers = omega (arith, range .two) in
+        let e = sym (between .holds .count) in
+        record {
+          updates =
+              record {
+                none-open = none-open c (between .log) (between .w) (between .g) a (r .begun) (r .network) (between .good) (valid .alone) shut;
+                shut = shut;
+                on-way = fresh-update (c .servers) (user .kept .version) (between .w) (between .log) (m .hashes) z;
+                waits = fresh-waits (c .servers) (user .kept .version) z;
+                sent = sent-for c range a (updateWant (c .servers) (user .kept .version) freshUpdate) [] (m .request) (omega (arith, given .memory .request));
+              };
+          asked = omega arith;
+          count = zero-add _ ∙ rw (shut, e) refl;
+          number = given .new shut .number;
+          position = rw (between .holds .count) (given .new shut .position);
+          target = rw (between .holds .count) (given .new shut .target);
+          room = λ s one. rw (between .holds .count) (given .new shut .room s);
+        }
+
+    new-call : WriteCall c (between .log) (between .w) (between .g) a n entry next (r .network .servers)
+    unfolding afterWrite writeWaits asking freshWrite
+    new-call =
+        record {
+          call = withUpdate fresh freshUpdate;
+          is = refl;
+          memory =
+              record {
+                hashes = given .memory .hashes;
+                held = written-length (m .held) 0 entry ∙ given .memory .held;
+                request = omega (arith, given .memory .request, written-length (m .request) 0 (asks (settingsIn c a) (updateWant (c .servers) (user .kept .version) freshUpdate) []));
+              };
+          key = given .key;
+          randomizer = given .random;
+          entry-fits = given .fits;
+          held = held;
+          before = λ _. to-open;
+          open-call = λ o. not-both (user .kept .opened) o shut;
+        }
+
+    new-start : Started c r a (startWrite m entry randomizer) n
+    unfolding steps stepOf userStep CallOk answersOf writeAnswers writeWaits asking afterWrite
+    new-start =
+        record {
+          some = omega arith;
+          code = ap (λ (l : WriteLeft). l .step .code) new-is;
+          ended = ap (λ (l : WriteLeft). l .step .ended) new-is;
+          on-way =
+              subst Goes (sym new-is)
+              (start-on-way c r a (startWrite m entry randomizer) between (valid .alone) next refl refl refl refl (λ o. not-both (user .kept .opened) o shut) n new-call);
+        }
+
+  -- its own write is open
+  module _ (opened : user .kept .opened ≡ true) where
+    ok : OpenOk c (between .log) (between .w) (between .g) a entry (user .kept) (user .path) (user .signature)
+    ok = subst (λ (e : List ℕ). OpenOk c (between .log) (between .w) (between .g) a e (user .kept) (user .path) (user .signature)) (sym (given .resumes opened)) (between .good .users-ok a .open-ok opened)
+
+    abbrev want : Want
+    want = writeWant (c .servers) (suc (between .w)) 0
+
+    abbrev body : List ℕ
+    body = bodyAt (between .log) (between .w) 0
+
+    abbrev reserving : WriteLeft
+    reserving =
+        record {
+          step = asking want body;
+          kept = user .kept;
+          call = fresh;
+          lent = withRequest (withHeld lent (written (m .held) 0 entry)) (written (m .request) 0 (asks (settingsIn c a) want body));
+        }
+
+    resumed-is : started ≡ reserving
+    unfolding freshWrite
+    resumed-is =
+        write-resumes c range (between .log) (between .w) (between .g) a entry (user .kept) lent opened (fit .kept-fit) ok (given .memory .request) randomizer (m .key) whole (given .fits)
+        ∙ asked-right (settingsIn c a) (between .log) (between .w) (user .kept) fresh (withHeld lent (written (m .held) 0 entry)) (ok .version) (ok .path-ok) (held ∙ sym (ok .entry))
+        (λ e. absurd (omega (arith, commit-positive (suc (between .w))))) (omega arith)
+
+    abbrev again : User
+    again = afterWrite user m reserving
+
+    body-fits : 26 + length body ≤ length (m .request)
+    body-fits =
+        let z = commit-positive (suc (between .w)) in
+        let b = body-small (between .log) (between .w) 0 (ok .item .short) (λ e. absurd (omega arith)) (omega arith) in
+        omega (arith, given .memory .request)
+
+    open-call : Opened c (between .log) (between .w) (between .g) a n again fresh
+    unfolding afterWrite answersOf freshWrite
+    open-call =
+        record {
+          opened = opened;
+          arrived = omega arith;
+          few = omega arith;
+          signed = λ e. absurd (omega (arith, commit-positive (suc (between .w))));
+          sent = sent-for c range a want body (m .request) body-fits;
+          count = zero-add _ ∙ rw (opened, ← between .holds .count) (zero-add _);
+        }
+
+    resumed-call : WriteCall c (between .log) (between .w) (between .g) a n entry again (r .network .servers)
+    unfolding afterWrite asking freshWrite
+    resumed-call =
+        record {
+          call = fresh;
+          is = refl;
+          memory =
+              record {
+                hashes = given .memory .hashes;
+                held = written-length (m .held) 0 entry ∙ given .memory .held;
+                request = omega (arith, given .memory .request, written-length (m .request) 0 (asks (settingsIn c a) want body));
+              };
+          key = given .key;
+          randomizer = given .random;
+          entry-fits = given .fits;
+          held = held;
+          before = λ s. not-both (user .kept .opened) opened s;
+          open-call = λ _. open-call;
+        }
+
+    resumed-start : Started c r a (startWrite m entry randomizer) n
+    unfolding steps stepOf userStep CallOk answersOf writeAnswers asking afterWrite begins
+    resumed-start =
+        record {
+          some = omega arith;
+          code = ap (λ (l : WriteLeft). l .step .code) resumed-is;
+          ended = ap (λ (l : WriteLeft). l .step .ended) resumed-is;
+          on-way =
+              subst Goes (sym resumed-is)
+              (start-on-way c r a (startWrite m entry randomizer) between (valid .alone) again refl refl refl refl (λ o. given .resumes o) n resumed-call);
+        }
+
+  pub write-start : Started c r a (startWrite m entry randomizer) n
+  write-start =
+      by-bool (λ t. user .kept .opened ≡ t → Started c r a (startWrite m entry randomizer) n) (user .kept .opened)
+      (λ _ e. resumed-start e) (λ _ e. new-start e) refl
