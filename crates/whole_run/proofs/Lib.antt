@@ -56,3 +56,4 @@ pub mod HonestOpenCalls
 pub mod HonestReadCalls
 pub mod HonestRun
 pub mod HonestTheorem
+pub mod HonestSample

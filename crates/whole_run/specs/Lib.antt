@@ -5,3 +5,4 @@ pub mod Claim
 pub mod Sample
 pub mod Honest
 pub mod HonestClaim
+pub mod HonestSample

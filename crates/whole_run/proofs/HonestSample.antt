@@ -1,0 +1,103 @@
+-- The premises of the honest run can be met: the first Write of user 1 on two servers is valid, and so ends with 0 after five answers.
+use mathlib.Core.Path.{_≡_, refl, ap, sym, _∙_, subst}
+use mathlib.Core.Bool.{true, false, cond, _&&_}
+use mathlib.Core.List.{List, [], _∷_}
+use Prim.Native.Nat.{ℕ, zero, suc, _+_, _*_, _≤_, _<_}
+use native.Mathlib.Omega.{arith}
+use lib.Dec.{eqb, ltb}
+use lib.ListN.{length, replicate, length-replicate, getD}
+use Rattle.sha256.proofs.Cases.{by-bool}
+use Rattle.tree.specs.Level.{leastFrom, reaches, lg, isFull, highestFull}
+use Rattle.tree.specs.Label.{owner}
+use Rattle.user.specs.Write.{entryFits, strikes, targetFits, commitNumber, writeLevel}
+use Rattle.tree.proofs.Cases.{not-both}
+use Rattle.whole_run.specs.World.{Lent, Input, startWrite}
+use Rattle.whole_run.specs.Runs.{newUser}
+use Rattle.whole_run.specs.Honest.{InRange, keyOf, after, handed, atFirst, Run, runOf}
+use Rattle.whole_run.specs.HonestClaim.{Alone, bodySize, storedTo, NewWrite, ValidInput, ValidCall, updateAnswers, writeAnswers, answersOf, countOf, AllValid, NotRefused, Reaches, Serves, HonestRun}
+use Rattle.whole_run.specs.HonestSample.{small}
+use Rattle.whole_run.proofs.HonestTheorem.{honest-run}
+
+-- a request stores at most a Commit and the entry's size
+little : (n p size s j : ℕ) → storedTo n p size s j ≤ j * (2552 + size)
+unfolding storedTo bodySize
+little n p size s zero = omega arith
+little n p size s (suc j) =
+    let owned = ltb (lg p) j && eqb (owner n p (writeLevel p j)) s in
+    let body : cond (eqb j (lg p + 1)) size (cond (ltb j (commitNumber p)) 32 2540) ≤ 2540 + size =
+    by-bool (λ b. cond b size (cond (ltb j (commitNumber p)) 32 2540) ≤ 2540 + size) (eqb j (lg p + 1)) (λ _. omega arith)
+    (λ _. by-bool (λ b. cond b 32 2540 ≤ 2540 + size) (ltb j (commitNumber p)) (λ _. omega arith) (λ _. omega arith))
+    in
+    let one : cond owned (12 + cond (eqb j (lg p + 1)) size (cond (ltb j (commitNumber p)) 32 2540)) 0 ≤ 2552 + size =
+    by-bool (λ b. cond b (12 + cond (eqb j (lg p + 1)) size (cond (ltb j (commitNumber p)) 32 2540)) 0 ≤ 2552 + size) owned (λ _. omega arith) (λ _. omega arith)
+    in
+    let r = little n p size s j in
+    omega arith
+
+abbrev entry : List ℕ
+entry = 1 ∷ 65 ∷ []
+
+abbrev memory : Lent
+memory =
+    record { hashes = replicate 1248 0; held = replicate 1026 0; request = replicate 2566 0; entry = []; key = keyOf small 1 }
+
+abbrev first : Input
+first = startWrite memory entry (replicate 32 0)
+
+abbrev stores : ℕ → List ℕ
+stores s = replicate 8000 0
+
+abbrev start : Run
+start = runOf small stores []
+
+range : InRange small
+range =
+    record {
+      two = omega arith;
+      sixteen = omega arith;
+      one = omega arith;
+      sixty-four = omega arith;
+      named = length-replicate {A = ℕ} 16 7;
+      identified = λ a. length-replicate {A = ℕ} 16 0;
+    }
+
+new : NewWrite small start (start .network .users 1 .kept) entry
+unfolding runOf atFirst newUser commitNumber targetFits strikes lg leastFrom reaches isFull highestFull
+new =
+    record {
+      number = omega arith;
+      position = omega arith;
+      target = refl;
+      room = λ s. let l : length (replicate {A = ℕ} 8000 0) ≡ 8000 = length-replicate {A = ℕ} 8000 0 in omega (arith, little 2 1 2 s 3, l);
+    }
+
+valid : ValidCall small start 1 first
+unfolding Alone ValidInput runOf atFirst newUser entryFits strikes
+valid =
+    record {
+      one = omega arith;
+      listed = omega arith;
+      alone = λ b n. refl;
+      input = (
+        record { hashes = length-replicate {A = ℕ} 1248 0; held = length-replicate {A = ℕ} 1026 0; request = let l : length (replicate {A = ℕ} 2566 0) ≡ 2566 = length-replicate {A = ℕ} 2566 0 in omega arith },
+        refl,
+        length-replicate {A = ℕ} 32 0,
+        refl,
+        λ o. not-both false o refl,
+        λ _. new,
+      );
+    }
+
+-- two Status, one Reserve, the entry and the Commit
+five : countOf small start 1 first ≡ 5
+unfolding runOf atFirst newUser answersOf updateAnswers writeAnswers lg leastFrom reaches isFull highestFull
+five = refl
+
+pub first-write-ends : (handed small (start .network) 1 first 5 .code ≡ 0) × (handed small (start .network) 1 first 5 .ended ≡ true)
+    × (after small (start .network) 1 first 5 .users 1 .kept .version ≡ 1)
+unfolding HonestRun AllValid NotRefused Serves Reaches runOf
+first-write-ends =
+    let h = honest-run small range stores [] tt 1 first valid in
+    let n = h .0 5 (omega (arith, five)) in
+    let e = ap (eqb 5) five in
+    (n .0, n .1 ∙ e, ap (λ k. after small (start .network) 1 first k .users 1 .kept .version) (sym five) ∙ h .1 .0)
