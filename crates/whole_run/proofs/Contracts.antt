@@ -1,18 +1,17 @@
 -- The contracts of a call's start name no buffer that the start does not touch. What they say is what the runs use, for every such buffer.
-use mathlib.Core.Path.{_≡_, refl, ap}
-use mathlib.Core.Bool.{Bool, true, false, cond}
+use mathlib.Core.Path.{_≡_, refl}
+use mathlib.Core.Bool.{cond}
 use mathlib.Core.List.{List, []}
 use Prim.Native.Nat.{ℕ, suc}
 use lib.Dec.{eqb}
-use lib.ListN.{length}
+use Rattle.sha256.proofs.Cases.{by-bool}
 use Rattle.tree.specs.Bytes.{written}
 use Rattle.tree.specs.Setup.{firstCode, Settings}
-use Rattle.sha256.proofs.Cases.{by-bool}
 use Rattle.tree.proofs.Cases.{not-both}
 use Rattle.user.specs.declared.call.Kept.{Kept}
 use Rattle.user.specs.declared.call.Write.{Write}
-use Rattle.user.specs.Update.{UpdateLeft, freshUpdate, updateEnded, updateSetup, updateGoes, updateRefused, updateStarted}
-use Rattle.user.specs.Write.{Key, WriteLent, WriteLeft, withHeld, writeRoom, writeStartChecks, freshWrite, heldEntry, writeAsks, writeWaits, writeBody, writeRefused, writeStarted}
+use Rattle.user.specs.Update.{UpdateLeft, freshUpdate, updateSetup, updateGoes, updateRefused, updateStarted}
+use Rattle.user.specs.Write.{Key, WriteLent, WriteLeft, writeRoom, writeStartChecks, freshWrite, heldEntry, writeAsks, writeWaits, writeRefused, writeStarted}
 use Rattle.user.specs.Writing.{keyOf, lentOf}
 use Rattle.user.proofs.UpdateRules.{endedLeft, askingLeft, by-goes}
 use Rattle.user.proofs.Writes.{body-first}
@@ -27,6 +26,7 @@ goes-on s k hashes buffer =
     (λ e. by-goes s k freshUpdate [] buffer (λ l. endedLeft k freshUpdate hashes buffer ≡ updateLeftWith hashes l) (λ _. refl) (λ n. not-both _ e n))
     (λ n. by-goes s k freshUpdate [] buffer (λ l. askingLeft s k freshUpdate hashes buffer ≡ updateLeftWith hashes l) (λ e. not-both _ e n) (λ _. refl))
 
+-- an Update starts alike whatever the hashes are
 pub update-start : (s : Settings) (k : Kept) (hashes buffer : List ℕ) → updateStarted s k hashes buffer ≡ updateLeftWith hashes (updateStarted s k [] buffer)
 unfolding updateStarted updateRefused
 update-start s k hashes buffer =
@@ -63,6 +63,7 @@ module _ (s : Settings) (k : Kept) (path signature hashes held request entry ran
   unfolding writeWaits
   waits = rw (goes-on s k hashes request)
 
+  -- a Write starts alike whatever signature, hashes and key beside its tree are
   pub write-start : writeStarted s k (lentOf path signature hashes held request) entry randomizer key
       ≡ writeLeftWith signature hashes (writeStarted s k (lentOf path [] [] held request) entry randomizer (keyOf [] [] (key .tree)))
   unfolding writeStarted writeStartChecks writeRoom writeRefused

@@ -1,15 +1,14 @@
 -- The claim: views of two users that read d differently end within Q(d, N) operations of d.
-use mathlib.Core.Path.{_≡_, refl, ap, sym, _∙_}
+use mathlib.Core.Path.{_≡_, ap, sym, _∙_}
 use mathlib.Core.List.{List, List·Memᴰ}
-use Prim.Native.Nat.{ℕ, suc, _+_, _-_, _≤_, _<_, min}
+use Prim.Native.Nat.{ℕ, _+_, _-_, _≤_, _<_, min}
 use native.Mathlib.Omega.{arith}
 use lib.ListN.{length}
 use Rattle.tree.specs.Expr.{NoCollision}
 use Rattle.tree.specs.Label.{owner, wait}
 use Rattle.tree.specs.Level.{lg}
-use Rattle.tree.specs.Tree.{digest}
 use Rattle.tree.proofs.Cases.{cases-le}
-use Rattle.tree.proofs.Labels.{OwnsNode, every-server-owns-a-node}
+use Rattle.tree.proofs.Labels.{every-server-owns-a-node}
 use Rattle.user.specs.Read.{textAuthor, textEntry}
 use Rattle.whole_run.specs.World.{Group, settingsOf, hashed, signed, answered, Reading}
 use Rattle.whole_run.specs.Runs.{World, Step, run, Fair}

@@ -2,22 +2,19 @@
 use mathlib.Core.Path.{_≡_, refl, ap, _∙_}
 use mathlib.Core.Bool.{Bool, true}
 use mathlib.Core.List.{List, _++_}
-use Prim.Native.Nat.{ℕ, zero, suc, _+_, _-_, _^_, _≤_, _<_}
+use Prim.Native.Nat.{ℕ, _+_, _-_, _^_, _≤_, _<_}
 use native.Mathlib.Omega.{arith}
-use lib.Dec.{leb}
-use lib.ListN.{length, take, length-append}
+use lib.ListN.{length, length-append}
 use lib.Pow.{pow-mono}
 use lib.Seq.{take-at}
 use borrow.Author.Tests.{le-leb, eq-eqb}
 use Rattle.sha256.specs.Bytes.{be}
-use Rattle.sha256.proofs.Hashes.{sha256-length}
 use Rattle.sha256.proofs.Laws.{be-length, eqs-refl}
 use Rattle.tree.specs.Level.{lg, isFull}
-use Rattle.tree.specs.Expr.{entryText, value}
-use Rattle.tree.specs.Tree.{leaves, tree, node, digest}
+use Rattle.tree.specs.Expr.{entryText}
 use Rattle.tree.specs.Message.{answerHeader, answer, answerCode, answerBody}
 use Rattle.tree.specs.Setup.{userCount, groupFits, Check, firstCode}
-use Rattle.tree.proofs.Cases.{by-bool, and-true, cases-le, cases-eq}
+use Rattle.tree.proofs.Cases.{and-true, cases-le, cases-eq}
 use Rattle.tree.proofs.Groups.{Group, group-fits}
 use Rattle.tree.proofs.Labels.{owner-range}
 use Rattle.tree.proofs.Levels.{lg-below, full-low}
@@ -26,7 +23,8 @@ use Rattle.user.specs.declared.ask.Want.{Want}
 use Rattle.user.specs.declared.call.Kept.{Kept}
 use Rattle.user.specs.Asking.{settingsFit, keptFits, ofNode, ofStatus, headed, bodyFits, isAnswer, answerChecks}
 use Rattle.whole_run.specs.Honest.{Setup, publicTo, settingsIn}
-use Rattle.whole_run.proofs.HonestState.{Item, texts, hashOf, digestOf, SignedOk, ItemOk, RightBody, CanAsk}
+use Rattle.whole_run.proofs.HonestState.{Item, texts, digestOf, SignedOk, ItemOk, RightBody, CanAsk}
+use Rattle.whole_run.proofs.HonestLog.{hash-size, digest-size}
 
 -- user a keeps k, where w entries are committed
 pub record Fit (c : Setup) (L : ℕ → Item) (w a : ℕ) (k : Kept) : Type 0 where
@@ -46,6 +44,18 @@ group-of c a e = group-fits (c .servers) (publicTo c (c .count)) (and-true (grou
 -- the answer with code 0 and this body
 abbrev pub answerTo : Want → List ℕ → List ℕ
 answerTo want body = answer (want .kind) (want .server) (want .position) (want .level) 0 body
+
+-- an answer that is headed as its request asks, has code 0 and a body of the right size is taken
+pub right-answer : (want : Want) (body : List ℕ) → want .kind < 256 → want .server < 256 → want .position < 4294967296 → want .level < 256
+    → bodyFits (want .kind) (length body) ≡ true
+    → (isAnswer want (answerTo want body) ≡ true) × (answerCode (answerTo want body) ≡ 0)
+unfolding isAnswer headed answer
+right-answer want body k s p l fits =
+    let header : List ℕ = answerHeader (want .kind) (want .server) (want .position) (want .level) 0 in
+    let n : length header ≡ 10 = answer-header-length (want .kind) (want .server) (want .position) (want .level) 0 in
+    let code : answerCode (header ++ body) ≡ 0 = answer-code (want .kind) (want .server) (want .position) (want .level) 0 body k s p l (omega arith) in
+    let size : length (header ++ body) - 10 ≡ length body = omega (arith, length-append header body) in
+    (rw (code, take-at header body 10 n, eqs-refl header, size, fits), code)
 
 -- 10 and 11 pass at an answer that is waited for, well shaped and has code 0, and what is checked after them decides
 pub answer-passes : (waits : Bool) (want : Want) (a : List ℕ) (cs : List Check) → waits ≡ true → isAnswer want a ≡ true → answerCode a ≡ 0
@@ -85,24 +95,6 @@ status-asks c w server a b =
       leaf = λ e. absurd (omega arith);
       top = λ e. absurd (omega arith);
     }
-
--- every hash of a tree has 32 bytes
-tree-size : (f : ℕ → List ℕ) (k o m : ℕ) → length (value (tree (leaves f) k o m)) ≡ 32
-unfolding tree value
-tree-size f zero o m = sha256-length _
-tree-size f (suc k) o m =
-    by-bool (λ b. leb m (2 ^ k) ≡ b → length (value (tree (leaves f) (suc k) o m)) ≡ 32) (leb m (2 ^ k))
-    (λ _ e. rw e (sha256-length _)) (λ _ e. rw e (sha256-length _)) refl
-
--- the hash of a node
-pub hash-size : (L : ℕ → Item) (p l : ℕ) → length (hashOf L p l) ≡ 32
-unfolding node
-hash-size L p l = tree-size (texts L) l _ _
-
--- the digest of p entries
-pub digest-size : (L : ℕ → Item) (p : ℕ) → length (digestOf L p) ≡ 32
-unfolding digest
-digest-size L p = tree-size (texts L) (lg p) 0 p
 
 -- a text is its author's two bytes and the entry
 pub text-size : (L : ℕ → Item) (i : ℕ) → length (texts L i) ≡ 2 + length (L i .entry)
@@ -190,14 +182,22 @@ module _ (c : Setup) (L : ℕ → Item) (w g : ℕ) (two : 2 ≤ c .servers) (si
         cases-eq (want .kind) 3 (λ e. let x = operation-size e in rw (e, le-leb _ _ (x .0), le-leb _ _ (x .1)))
         (λ o. let e : want .kind ≡ 4 = omega (arith, m, n, o, ask .first-kind, ask .last-kind) in rw e (eq-eqb _ _ (record-size e)))))
 
-    -- the code is 0
-    pub right-code : answerCode (answerTo want body) ≡ 0
-    right-code =
+    -- 10 and 11 pass
+    passes : (isAnswer want (answerTo want body) ≡ true) × (answerCode (answerTo want body) ≡ 0)
+    passes =
         let k = ask .last-kind in
         let l = level-small in
         let s = server-small in
         let p = position-small in
-        answer-code (want .kind) (want .server) (want .position) (want .level) 0 body (omega arith) (omega arith) (omega arith) (omega arith) (omega arith)
+        right-answer want body (omega arith) (omega arith) (omega arith) (omega arith) body-fits
+
+    -- the answer is well shaped
+    pub right-shape : isAnswer want (answerTo want body) ≡ true
+    right-shape = passes .0
+
+    -- the code is 0
+    pub right-code : answerCode (answerTo want body) ≡ 0
+    right-code = passes .1
 
     -- the body is what the answer was made from
     pub right-body : answerBody (answerTo want body) ≡ body
@@ -207,13 +207,3 @@ module _ (c : Setup) (L : ℕ → Item) (w g : ℕ) (two : 2 ≤ c .servers) (si
         let s = server-small in
         let p = position-small in
         answer-body (want .kind) (want .server) (want .position) (want .level) 0 body (omega arith) (omega arith) (omega arith) (omega arith) (omega arith)
-
-    -- 10 passes
-    pub right-shape : isAnswer want (answerTo want body) ≡ true
-    unfolding isAnswer headed answer
-    right-shape =
-        let head : List ℕ = answerHeader (want .kind) (want .server) (want .position) (want .level) 0 in
-        let n = answer-header-length (want .kind) (want .server) (want .position) (want .level) 0 in
-        let t : take 10 (head ++ body) ≡ head = take-at head body 10 n in
-        let l : length (head ++ body) - 10 ≡ length body = omega (arith, length-append head body) in
-        rw (right-code, t, eqs-refl head, l) body-fits

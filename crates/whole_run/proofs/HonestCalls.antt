@@ -12,11 +12,11 @@ use Rattle.user.specs.declared.call.Step.{Step}
 use Rattle.user.specs.Update.{updateEnded, updateWant}
 use Rattle.user.specs.Write.{entryFits, targetFits, commitNumber, writeWant, heldEntry}
 use Rattle.user.specs.Read.{readCount, readWant}
-use Rattle.whole_run.specs.World.{User, updating, writing, reading, Input, startUpdate, startWrite, startRead, answer}
+use Rattle.whole_run.specs.World.{User, updating, writing, reading, Input, startUpdate, startWrite, startRead, answer, Lent}
 use Rattle.whole_run.specs.Honest.{Setup, keyOf, Server, Network, set, settingsIn, steps, stepOf, Written, Run, wrote, begins}
 use Rattle.whole_run.specs.HonestClaim.{Alone, storedBy, ValidMemory, updateAnswers, writeAnswers, writtenAt, Serves}
 use Rattle.whole_run.proofs.HonestState.{Item, bodyAt, UpdateOk, ReadOk, Good}
-use Rattle.whole_run.proofs.HonestFrames.{sentFor}
+use Rattle.whole_run.proofs.HonestFrames.{sentFor, set-same}
 use Rattle.whole_run.proofs.HonestExchanges.{exchanged, handedBy}
 
 -- an Update, a call of its own or a Write's
@@ -27,6 +27,7 @@ pub record Updates (c : Setup) (L : ℕ → Item) (w g a : ℕ) (u : User) (x : 
   pub waits : updateEnded (c .servers) (u .kept .version) x ≡ false
   pub sent : u .sent ≡ sentFor c a (updateWant (c .servers) (u .kept .version) x) []
 
+-- an Update that is a call of its own
 pub record UpdateCall (c : Setup) (L : ℕ → Item) (w g a left : ℕ) (u : User) : Type 0 where
   pub call : Update
   pub is : u .call ≡ updating call
@@ -53,6 +54,7 @@ pub record Opened (c : Setup) (L : ℕ → Item) (w g a left : ℕ) (u : User) (
   pub sent : u .sent ≡ sentFor c a (writeWant (c .servers) (suc w) (call .asked)) (bodyAt L w (call .asked))
   pub count : call .asked + left ≡ writeAnswers (suc w)
 
+-- a Write, before its first Reserve or open
 pub record WriteCall (c : Setup) (L : ℕ → Item) (w g a left : ℕ) (entry : List ℕ) (u : User) (y : ℕ → Server) : Type 0 where
   pub call : Write
   pub is : u .call ≡ writing call
@@ -64,6 +66,7 @@ pub record WriteCall (c : Setup) (L : ℕ → Item) (w g a left : ℕ) (entry : 
   pub before : call .opened ≡ false → ToOpen c L w g a left entry u y call
   pub open-call : call .opened ≡ true → Opened c L w g a left u call
 
+-- a Read of position i
 pub record ReadCall (c : Setup) (L : ℕ → Item) (w a i left : ℕ) (u : User) : Type 0 where
   pub call : Read
   pub is : u .call ≡ reading call
@@ -93,6 +96,11 @@ pub record Holds (L : ℕ → Item) (w : ℕ) (log : List Written) : Type 0 wher
 abbrev pub begunBy : Run → ℕ → Input → ℕ → List ℕ
 begunBy r a i = set (r .begun) a (begins i (r .begun a))
 
+-- a Write begins its entry
+pub begun-entry : (r : Run) (a : ℕ) (m : Lent) (entry randomizer : List ℕ) → begunBy r a (startWrite m entry randomizer) a ≡ entry
+unfolding begins
+begun-entry r a m entry randomizer = set-same (r .begun) a entry
+
 -- between two calls
 pub record Between (c : Setup) (r : Run) : Type 0 where
   pub log : ℕ → Item
@@ -101,7 +109,7 @@ pub record Between (c : Setup) (r : Run) : Type 0 where
   pub good : Good c log w g (r .begun) (r .network)
   pub holds : Holds log w (r .log)
 
--- a call of user a that goes on, and one that has ended with 0
+-- a call of user a that goes on
 pub record OnWay (c : Setup) (r : Run) (a : ℕ) (i : Input) (left : ℕ) (x : Network) : Type 0 where
   pub log : ℕ → Item
   pub w : ℕ
@@ -112,6 +120,7 @@ pub record OnWay (c : Setup) (r : Run) (a : ℕ) (i : Input) (left : ℕ) (x : N
   pub reads : x .users a .reads ≡ r .network .users a .reads
   pub call : CallOk c log w g a left (x .users a) (x .servers) i
 
+-- a call of user a that has ended with 0
 pub record Over (c : Setup) (r : Run) (a : ℕ) (i : Input) (handed : Step) (x : Network) : Type 0 where
   pub log : ℕ → Item
   pub w : ℕ
@@ -139,3 +148,9 @@ pub record Stepped (c : Setup) (r : Run) (a : ℕ) (i : Input) (left : ℕ) (x :
 pub record Late (c : Setup) (L : ℕ → Item) (w : ℕ) (begun : ℕ → List ℕ) (x : Network) : Type 0 where
   pub g : ℕ
   pub good : Good c L w g begun x
+
+-- the Write that is on its way
+pub write-call : (c : Setup) (r : Run) (a : ℕ) (m : Lent) (entry randomizer : List ℕ) (left : ℕ) (x : Network)
+    → (o : OnWay c r a (startWrite m entry randomizer) left x) → WriteCall c (o .log) (o .w) (o .g) a left entry (x .users a) (x .servers)
+unfolding CallOk
+write-call c r a m entry randomizer left x o = o .call

@@ -22,7 +22,7 @@ use Rattle.user.specs.declared.call.Update.{Update}
 use Rattle.user.specs.Update.{recordHolds, coverGivesOwn, coverGivesNew}
 use Rattle.whole_run.specs.Honest.{Setup, publicTo, settingsIn}
 use Rattle.whole_run.proofs.HonestState.{Item, texts, digestOf, SignedOk, ItemOk}
-use Rattle.whole_run.proofs.HonestAnswers.{digest-size}
+use Rattle.whole_run.proofs.HonestLog.{digest-size}
 
 -- a Record's body is read back
 module _ (body digest signature : List ℕ) (author : ℕ) (e : body ≡ be 2 author ++ (digest ++ signature)) (size : length digest ≡ 32) where

@@ -1,7 +1,7 @@
 -- How far an open write has come: which records are stored and which labels reserved once g of its requests have arrived.
 use mathlib.Core.Path.{_≡_, refl, sym, _∙_}
 use mathlib.Core.Bool.{true, false, cond, _&&_, _||_, false≢true}
-use Prim.Native.Nat.{ℕ, suc, _+_, _-_, _≤_, _<_, min}
+use Prim.Native.Nat.{ℕ, suc, _+_, _≤_, _<_, min}
 use native.Mathlib.Nat.{add-zero}
 use native.Mathlib.Omega.{arith}
 use lib.Dec.{eqb, leb, ltb}
@@ -32,7 +32,7 @@ unfolding has
 has-not w g kind l a = rw (lt-leb (suc w) w (omega arith), eq-eqb (suc w) (suc w) refl) (le-ltb (numberOf kind (suc w) l) g a)
 
 -- nor is one of a later position
-pub has-far : (w g kind p l : ℕ) → suc w < p → has w g kind p l ≡ false
+has-far : (w g kind p l : ℕ) → suc w < p → has w g kind p l ≡ false
 unfolding has
 has-far w g kind p l a = rw (lt-leb p w (omega arith), ne-eqb p (suc w) (λ e. omega arith))
 
@@ -89,7 +89,7 @@ unfolding commitNumber
 number-low kind p l = by-bool (λ b. lg p < cond b (lg p + 1 + highestFull p + 1) (lg p + 1 + l)) (eqb kind 8) (λ _. omega arith) (λ _. omega arith)
 
 -- the Commit's is the last,
-pub number-high : (kind p l : ℕ) → 0 < p → 6 ≤ kind → nodeFits kind p l ≡ true → numberOf kind p l ≤ commitNumber p
+number-high : (kind p l : ℕ) → 0 < p → 6 ≤ kind → nodeFits kind p l ≡ true → numberOf kind p l ≤ commitNumber p
 unfolding commitNumber
 number-high kind p l z k f =
     by-stored-kind kind p l k f

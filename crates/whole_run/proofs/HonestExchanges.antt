@@ -7,26 +7,29 @@ use Rattle.server.specs.Serve.{Left}
 use Rattle.user.specs.declared.ask.Want.{Want}
 use Rattle.user.specs.declared.call.Step.{Step}
 use Rattle.user.specs.Write.{writeWant, writeKind, writeLevel}
-use Rattle.whole_run.specs.World.{User, Sent, Call, Input, answer, taking, userStep}
-use Rattle.whole_run.specs.Honest.{Setup, settingsIn, Server, Network, set, reply, answerBytes, serverLeft, arrives, steps, comesBack, takenStep, stepOf}
+use Rattle.whole_run.specs.World.{Sent, Call, answer, taking, userStep, User}
+use Rattle.whole_run.specs.Honest.{Setup, settingsIn, Network, set, reply, answerBytes, serverLeft, arrives, steps, comesBack, takenStep, stepOf}
 use Rattle.whole_run.proofs.HonestState.{Item, bodyAt, serving, PullRight, putting, serversAfter, PutRight}
 use Rattle.whole_run.proofs.HonestFrames.{by-set, sentFor, reply-is}
 use Rattle.whole_run.proofs.HonestMoves.{withUser}
 
--- the network after one request and its answer, and what the answer's step hands back
+-- the network after one request and its answer
 abbrev pub exchanged : Setup → Network → ℕ → Network
 exchanged c x a = steps c (arrives c x a) a (comesBack c x a)
 
+-- what the answer's step hands back
 abbrev pub handedBy : Setup → Network → ℕ → Step
 handedBy c x a = stepOf (settingsIn c a) (x .users a) (comesBack c x a)
 
--- the answer y comes back to call k, which leaves user u and hands back z
-pub record Exchanges (c : Setup) (x : Network) (a : ℕ) (y : List ℕ) (k : Call) : Type 0 where
-  pub next : exchanged c x a ≡ withUser x a (taking (settingsIn c a) (x .users a) y k .user) (arrives c x a .servers)
-  pub hands : handedBy c x a ≡ takenStep (settingsIn c a) (x .users a) y k
+-- the answer leaves user u, and its step hands back z
+pub record Exchanges (c : Setup) (x : Network) (a : ℕ) (u : User) (z : Step) : Type 0 where
+  pub next : exchanged c x a ≡ withUser x a u (arrives c x a .servers)
+  pub hands : handedBy c x a ≡ z
 
+-- so does the answer y to call k
 pub exchange-is : (c : Setup) (x : Network) (a : ℕ) (y : List ℕ) (k : Call) → x .users a .call ≡ k
-    → answerBytes (reply c x (x .users a .sent)) ≡ y → Exchanges c x a y k
+    → answerBytes (reply c x (x .users a .sent)) ≡ y
+    → Exchanges c x a (taking (settingsIn c a) (x .users a) y k .user) (takenStep (settingsIn c a) (x .users a) y k)
 unfolding steps arrives comesBack userStep stepOf
 exchange-is c x a y k is back =
     record {
@@ -41,6 +44,7 @@ exchange-is c x a y k is back =
 -- a pull that is answered rightly
 module _ (c : Setup) (L : ℕ → Item) (w g a : ℕ) (x : Network) (want : Want) (right : PullRight c L w g a (x .servers (want .server)) want)
     (sent : x .users a .sent ≡ sentFor c a want []) where
+  -- its answer comes back
   pub pull-comes : answerBytes (reply c x (x .users a .sent)) ≡ Message.answer (want .kind) (want .server) (want .position) (want .level) 0 (right .body)
   pull-comes = ap answerBytes (reply-is c x a want [] (x .users a .sent) sent) ∙ right .given
 
@@ -57,13 +61,16 @@ module _ (c : Setup) (L : ℕ → Item) (w g j : ℕ) (x : Network) (right : Put
     (sent : x .users a .sent ≡ sentFor c a (writeWant (c .servers) (suc w) j) (bodyAt L w j)) where
   put-reply : reply c x (x .users a .sent) ≡ putting c L w j (x .servers)
   put-reply =
-      reply-is c x a (writeWant (c .servers) (suc w) j) (bodyAt L w j) (x .users a .sent) sent
-      ∙ ap (λ k. serving c k (writeWant (c .servers) (suc w) j .server) (x .servers (writeWant (c .servers) (suc w) j .server)) (writeWant (c .servers) (suc w) j) (bodyAt L w j)) (sym own)
+      let want = writeWant (c .servers) (suc w) j in
+      reply-is c x a want (bodyAt L w j) (x .users a .sent) sent
+      ∙ ap (λ k. serving c k (want .server) (x .servers (want .server)) want (bodyAt L w j)) (sym own)
 
+  -- its acceptance comes back
   pub put-comes : answerBytes (reply c x (x .users a .sent))
       ≡ Message.answer (writeKind (suc w) j) (writeWant (c .servers) (suc w) j .server) (suc w) (writeLevel (suc w) j) 0 []
   put-comes = ap answerBytes put-reply ∙ right .given
 
+  -- its owner's state changes, and no other's
   pub put-leaves : (s : ℕ) → arrives c x a .servers s ≡ serversAfter c L w j (x .servers) s
   unfolding arrives
   put-leaves s =

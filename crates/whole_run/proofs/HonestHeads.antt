@@ -28,7 +28,7 @@ same-rest n t u z =
     (λ i. by-eqb (λ b. t % n ≡ cond b n (u % n) → t % n ≡ u % n) (u % n) 0 (λ j q. absurd (omega arith)) (λ j q. q))
 
 -- two labels of one owner are n apart
-pub own-gap : (n t u : ℕ) → 0 < n → ownerOf n t ≡ ownerOf n u → t < u → t + n ≤ u
+own-gap : (n t u : ℕ) → 0 < n → ownerOf n t ≡ ownerOf n u → t < u → t + n ≤ u
 own-gap n t u z e a =
     let r = same-rest n t u z e in
     let x : t / n * n + t % n ≡ t = div-add-mod' t n in
@@ -41,7 +41,7 @@ own-gap n t u z e a =
     omega arith)
 
 -- the first label of server s is s
-pub own-self : (n s : ℕ) → 0 < s → s ≤ n → ownerOf n s ≡ s
+own-self : (n s : ℕ) → 0 < s → s ≤ n → ownerOf n s ≡ s
 unfolding ownerOf serverOf
 own-self n s a b =
     cases-eq s n (λ e. rw (e, mod-self n))
@@ -79,12 +79,6 @@ passed n s T t a b ne h =
           cases-eq (suc T) (t + n) (λ q. absurd (ne (ap (ownerOf n) q ∙ add-own n t ∙ h .mine p))) (λ q. omega arith);
     }
 
--- the heads of two servers are less than n apart
-pub near : (n s r T t u : ℕ) → s ≤ n → HeadAt n s T t → HeadAt n r T u → u < t + n
-near n s r T t u b h g =
-    let x = g .low in
-    cases-eq t 0 (λ e. let y = h .none e in omega arith) (λ ne. let y = h .last (positive t ne) in omega arith)
-
 -- no label of a server up to T lies above its head
 pub above-own : (n s T t x : ℕ) → 0 < n → s ≤ n → HeadAt n s T t → ownerOf n x ≡ s → 0 < x → x ≤ T → x ≤ t
 above-own n s T t x c b h e z a =
@@ -106,10 +100,12 @@ pub nodes-suc : (i : ℕ) → nodesTo (suc i) ≡ nodesTo i + (lg (suc i) + 1)
 unfolding nodesTo
 nodes-suc i = refl
 
+-- before the first position there is no label
 pub nodes-zero : nodesTo 0 ≡ 0
 unfolding nodesTo
 nodes-zero = refl
 
+-- a position's labels stand behind those of the positions before it
 pub label-is : (i l : ℕ) → label (suc i) l ≡ suc (l + nodesTo i)
 unfolding label
 label-is i l = omega arith
@@ -118,20 +114,22 @@ nodes-far : (p q : ℕ) → nodesTo p + q ≤ nodesTo (p + q)
 nodes-far p zero = simp add-zero (omega arith)
 nodes-far p (suc q) = let h = nodes-far p q in let e = nodes-suc (p + q) in rw (add-suc p q) (omega arith)
 
+-- a later position ends with a greater label
 pub nodes-lt : (p w : ℕ) → p < w → nodesTo p < nodesTo w
 nodes-lt p w a =
     let e : p + (w - p) ≡ w = omega arith in
     let g : nodesTo p + (w - p) ≤ nodesTo w = rw e at (nodes-far p (w - p)) in
     omega arith
 
-pub nodes-le : (p w : ℕ) → p ≤ w → nodesTo p ≤ nodesTo w
+nodes-le : (p w : ℕ) → p ≤ w → nodesTo p ≤ nodesTo w
 nodes-le p w a = cases-eq p w (λ e. let q : nodesTo p ≡ nodesTo w = ap nodesTo e in omega arith) (λ ne. let h = nodes-lt p w (omega arith) in omega arith)
 
--- position 0 has label 0, and no other position has
+-- position 0 has label 0
 pub label-zero : (l : ℕ) → label 0 l ≡ 0
 unfolding label
 label-zero l = refl
 
+-- no other position has label 0
 pub label-above-zero : (p l : ℕ) → 0 < p → 0 < label p l
 label-above-zero p l z = let e = label-sum p l z in omega arith
 
@@ -146,6 +144,7 @@ position-le zero l w a = omega arith
 position-le (suc i) l w a =
     cases-le (suc i) w (λ k. k) (λ k. let e = label-is i l in let y = nodes-le w i (omega arith) in absurd (omega arith))
 
+-- a label past those of w positions is one of a later position
 pub position-gt : (p l w : ℕ) → l ≤ lg p → nodesTo w < label p l → w < p
 position-gt zero l w a b = let e = label-zero l in absurd (omega arith)
 position-gt (suc i) l w a b =

@@ -24,12 +24,13 @@ pub tree-size : (c : Setup) (a : ℕ) → length (keyOf c a .tree) ≡ 65504
 unfolding keyOf treeSize
 tree-size c a = tree-length LMOTS_SHA256_N32_W4 (LMS_SHA256_M32_H10 .h) (c .id a) (c .seed a)
 
--- what a user keeps is in range, with no write open and with one
+-- what a user keeps is in range, with no write open
 pub kept-fits-shut : (k : Kept) → k .opened ≡ false → k .version ≤ 1048576 → k .number ≤ 1024 → keptFits k ≡ true
 unfolding keptFits
 kept-fits-shut k shut low few =
     rw (le-leb (k .version) 1048576 low, le-leb (k .number) 1024 few) (ap (λ (b : Bool). not (b && leb 1048576 (k .version))) shut)
 
+-- what a user keeps is in range, with a write open
 pub kept-fits-open : (k : Kept) → k .version < 1048576 → k .number ≤ 1024 → keptFits k ≡ true
 unfolding keptFits
 kept-fits-open k low few =
@@ -37,14 +38,14 @@ kept-fits-open k low few =
 
 module _ (c : Setup) (r : InRange c) where
   -- a public key has 56 bytes, and k of them 56 * k
-  pub key-size : (a : ℕ) → length (publicOf c a) ≡ 56
+  key-size : (a : ℕ) → length (publicOf c a) ≡ 56
   unfolding publicOf
   key-size a =
       key-length LMOTS_SHA256_N32_W4 LMS_SHA256_M32_H10 (c .id a)
       (T LMOTS_SHA256_N32_W4 (LMS_SHA256_M32_H10 .h) (c .id a) (c .seed a) 1) (r .identified a)
       (node-length LMOTS_SHA256_N32_W4 (LMS_SHA256_M32_H10 .h) (c .id a) (c .seed a) 1)
 
-  pub public-length : (k : ℕ) → length (publicTo c k) ≡ 56 * k
+  public-length : (k : ℕ) → length (publicTo c k) ≡ 56 * k
   unfolding publicTo
   public-length zero = refl
   public-length (suc k) = length-append (publicTo c k) (publicOf c (suc k)) ∙ omega (arith, public-length k, key-size (suc k))
@@ -76,11 +77,12 @@ module _ (c : Setup) (r : InRange c) where
       cases-le a k (λ l. key-before k a one l ∙ key-among k a one l)
       (λ l. let e : a ≡ suc k = omega arith in rw e (key-at-end k))
 
+  -- the key at a's place is user a's
   pub own-key : (a : ℕ) → 1 ≤ a → a ≤ c .count → userKey (publicTo c (c .count)) a ≡ publicOf c a
   own-key a one h = key-among (c .count) a one h
 
   -- the group, and with it each user and server, has settings in range
-  pub group-ok : groupFits (c .servers) (publicTo c (c .count)) ≡ true
+  group-ok : groupFits (c .servers) (publicTo c (c .count)) ≡ true
   unfolding groupFits
   group-ok =
       let n = public-length (c .count) in
@@ -94,10 +96,12 @@ module _ (c : Setup) (r : InRange c) where
         le-leb (c .count) 64 (r .sixty-four),
       )
 
+  -- so each user has settings in range
   pub user-settings : (a : ℕ) → 1 ≤ a → a ≤ c .count → userChecks.settingsFit (settingsIn c a) ≡ true
   unfolding userChecks.settingsFit listed
   user-settings a one h = rw (group-ok, user-count, le-leb 1 a one, le-leb a (c .count) h)
 
+  -- and each server
   pub server-settings : (s : ℕ) → 1 ≤ s → s ≤ c .servers → serverChecks.settingsFit (c .servers) s (publicTo c (c .count)) ≡ true
   unfolding serverChecks.settingsFit
   server-settings s one h = rw (group-ok, le-leb 1 s one, le-leb s (c .servers) h)

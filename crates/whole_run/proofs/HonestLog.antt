@@ -1,24 +1,45 @@
--- The log's hashes: a path ends with the digest, and what is written later changes no hash.
-use mathlib.Core.Path.{_≡_, refl, ap, sym, _∙_, subst}
+-- The log's hashes: each has 32 bytes, a path begins with the leaf and ends with the digest, and what is written later changes no hash.
+use mathlib.Core.Path.{_≡_, ap, sym, _∙_, subst}
 use mathlib.Core.Bool.{true}
 use mathlib.Core.List.{List}
-use Prim.Native.Nat.{ℕ, suc, _-_, _*_, _/_, _^_, _≤_, _<_}
+use Prim.Native.Nat.{ℕ, suc, _-_, _*_, _/_, _^_, _≤_, _<_, zero}
 use native.Mathlib.Nat.{div-add-mod', mod-lt}
 use native.Mathlib.Omega.{arith}
 use lib.ListN.{length}
 use lib.Pow.{pow-pos}
-use Rattle.lms.specs.Types.{LMOTS_SHA256_N32_W4, LMS_SHA256_M32_H10}
-use Rattle.lms.specs.Check.{checkOf, isValid}
+use Rattle.sha256.proofs.Hashes.{sha256-length}
 use Rattle.tree.specs.Level.{lg}
 use Rattle.tree.specs.Expr.{entryText, leaf, value}
-use Rattle.tree.specs.Tree.{leaves, digest, node, blockOf}
-use Rattle.tree.specs.Message.{signedText}
-use Rattle.tree.specs.Setup.{userKey}
+use Rattle.tree.specs.Tree.{leaves, digest, node, blockOf, above, tree}
 use Rattle.tree.proofs.Levels.{lg-ge}
 use Rattle.tree.proofs.Trees.{tree-cong}
 use Rattle.tree.proofs.Grows.{block-of-root}
-use Rattle.whole_run.specs.Honest.{Setup, publicTo}
-use Rattle.whole_run.proofs.HonestState.{Item, texts, hashOf, digestOf, SignedOk, ItemOk}
+use Rattle.tree.proofs.Cases.{by-leb}
+use Rattle.whole_run.specs.Honest.{Setup}
+use Rattle.whole_run.proofs.HonestState.{Item, texts, hashOf, digestOf, SignedOk, ItemOk, validAt}
+
+-- a hash of the log has 32 bytes
+tree-size : (f : ℕ → List ℕ) (k o m : ℕ) → length (value (tree (leaves f) k o m)) ≡ 32
+unfolding tree value
+tree-size f zero o m = sha256-length _
+tree-size f (suc k) o m =
+    by-leb (λ b. length (value (above (λ o m. tree (leaves f) k o m) k o m b)) ≡ 32) m (2 ^ k)
+    (λ _. sha256-length _) (λ _. sha256-length _)
+
+-- so has the hash of a node
+pub hash-size : (L : ℕ → Item) (p l : ℕ) → length (hashOf L p l) ≡ 32
+unfolding node
+hash-size L p l = tree-size (texts L) l _ _
+
+-- and so has a digest
+pub digest-size : (L : ℕ → Item) (p : ℕ) → length (digestOf L p) ≡ 32
+unfolding digest
+digest-size L p = tree-size (texts L) (lg p) 0 p
+
+-- the node of level 0 is the leaf of the entry
+pub hash-of-leaf : (L : ℕ → Item) (p : ℕ) → hashOf L p 0 ≡ value (leaf (texts L (p - 1)))
+unfolding node tree blockOf
+hash-of-leaf L p = let e : (p - 1) / 1 * 1 ≡ p - 1 = omega arith in ap (λ (i : ℕ). value (leaf (texts L i))) e
 
 -- the node at the end of a path is the digest
 pub top-is-digest : (L : ℕ → Item) (p : ℕ) → 0 < p → hashOf L p (lg p) ≡ digestOf L p
@@ -38,15 +59,20 @@ same-hash L M p l z same =
     let o = (p - 1) / 2 ^ l * 2 ^ l in
     ap value (tree-cong (leaves (texts L)) (leaves (texts M)) l o (p - o) (omega arith) (omega arith) (λ i a b. ap leaf (same i (omega arith))))
 
+-- and the same digest
 pub same-digest : (L M : ℕ → Item) (p : ℕ) → 0 < p → ((i : ℕ) → i < p → texts L i ≡ texts M i) → digestOf L p ≡ digestOf M p
 same-digest L M p z same = sym (top-is-digest L p z) ∙ same-hash L M p (lg p) z same ∙ top-is-digest M p z
+
+-- logs with the same first w items have the same first w texts
+pub same-texts : (L M : ℕ → Item) (w : ℕ) → ((i : ℕ) → i < w → L i ≡ M i) → (i : ℕ) → i < w → texts L i ≡ texts M i
+same-texts L M w same i h = ap (λ (y : Item). entryText (y .author) (y .entry)) (same i h)
 
 -- what was written before place w is the same in a log that differs from there on only
 pub items-stay : (c : Setup) (L M : ℕ → Item) (w : ℕ) → ((i : ℕ) → i < w → L i ≡ M i) → ((i : ℕ) → i < w → ItemOk c L i × SignedOk c L i)
     → (i : ℕ) → i < w → ItemOk c M i × SignedOk c M i
 items-stay c L M w same items i h =
     let x = items i h in
-    let d = same-digest L M (suc i) (omega arith) (λ j b. ap (λ (y : Item). entryText (y .author) (y .entry)) (same j (omega arith))) in
+    let d = same-digest L M (suc i) (omega arith) (λ j b. same-texts L M w same j (omega arith)) in
     let e = same i h in (
       record {
         one = subst (λ (y : Item). 1 ≤ y .author) e (x .0 .one);
@@ -57,8 +83,6 @@ items-stay c L M w same items i h =
       record {
         size = subst (λ (y : Item). length (y .signature) ≡ 2508) e (x .1 .size);
         valid =
-            subst (λ (δ : List ℕ). isValid (checkOf LMOTS_SHA256_N32_W4 LMS_SHA256_M32_H10 (userKey (publicTo c (c .count)) (M i .author)) (signedText (c .log) (suc i) δ) (M i .signature)) ≡ true) d
-            (subst (λ (y : Item). isValid (checkOf LMOTS_SHA256_N32_W4 LMS_SHA256_M32_H10 (userKey (publicTo c (c .count)) (y .author)) (signedText (c .log) (suc i) (digestOf L (suc i))) (y .signature)) ≡ true) e
-            (x .1 .valid));
+            subst (λ (δ : List ℕ). validAt c i (M i) δ ≡ true) d (subst (λ (y : Item). validAt c i y (digestOf L (suc i)) ≡ true) e (x .1 .valid));
       },
     )

@@ -1,9 +1,8 @@
 -- What holds of all users and servers after a step of one user, nobody else's write being open.
-use mathlib.Core.Path.{_≡_, refl, ap, sym, _∙_, subst}
+use mathlib.Core.Path.{_≡_, ap, sym, _∙_, subst}
 use mathlib.Core.Bool.{true, false}
 use mathlib.Core.List.{List}
 use Prim.Native.Nat.{ℕ, suc, _≤_, _<_}
-use native.Mathlib.Omega.{arith}
 use lib.ListN.{length}
 use Rattle.tree.proofs.Cases.{cases-eq, not-both}
 use Rattle.user.specs.declared.call.Kept.{Kept}
@@ -18,6 +17,7 @@ use Rattle.whole_run.proofs.HonestFrames.{set-same, set-other, user-mov
 abbrev pub withUser : Network → ℕ → User → (ℕ → Server) → Network
 withUser x a u y = record { users = set (x .users) a u; servers = y }
 
+-- user a's own step opens no other user's write
 pub still-alone : (x : Network) (a : ℕ) (u : User) (y : ℕ → Server) → Alone x a → Alone (withUser x a u y) a
 unfolding Alone
 still-alone x a u y alone b n = ap (λ (v : User). v .kept .opened) (set-other (x .users) a u b n) ∙ alone b n
@@ -57,6 +57,7 @@ module _ (c : Setup) (L M : ℕ → Item) (w v g h a : ℕ) (b f : ℕ → List 
         within = left .within;
       }
 
+  -- all users and servers after user a's step
   pub good-next : (u : User) (y : ℕ → Server) → Leaves c M v h a (f a) u y → Good c M v h f (withUser x a u y)
   good-next u y left =
       good-change (withUser x a u y) (λ j n. set-other (x .users) a u j n)
@@ -112,6 +113,7 @@ module _ (c : Setup) (L : ℕ → Item) (w g a : ℕ) (b : ℕ → List ℕ) (x 
         open-ok = open-same;
       }
 
+  -- its step leaves what held before
   pub leaves-same : Leaves c L w g a begun u y
   leaves-same =
       record {

@@ -1,14 +1,13 @@
 -- A Write that nothing refuses, up to its first Reserve: its start, its Update, and the path that the write opens with.
 use mathlib.Core.Path.{_≡_, refl, ap, ap₂, sym, _∙_}
 use mathlib.Core.Bool.{Bool, true, false, cond, not, _&&_, _||_}
-use mathlib.Core.List.{List, [], _∷_, _++_}
+use mathlib.Core.List.{List, _++_}
 use Prim.Native.Nat.{ℕ, zero, suc, _+_, _*_, _≤_, _<_}
 use native.Mathlib.Omega.{arith}
-use lib.Dec.{eqb, leb, ltb}
+use lib.Dec.{eqb, ltb}
 use lib.ListN.{length, take, drop, getD}
-use lib.Pow.{pow-pos}
 use lib.Seq.{take-at}
-use borrow.Author.Tests.{eq-eqb, ne-eqb, le-leb, leb-true, lt-ltb}
+use borrow.Author.Tests.{le-leb, lt-ltb}
 use Rattle.lms.specs.Types.{cat}
 use Rattle.lms.proofs.Parts.{cat-part}
 use Rattle.tree.specs.Bytes.{eqs, written}
@@ -16,28 +15,30 @@ use Rattle.tree.specs.Level.{lg}
 use Rattle.tree.specs.Expr.{Expr, leaf, entryText, value}
 use Rattle.tree.specs.Tree.{leaves}
 use Rattle.tree.specs.Cover.{at, piece, cover, coverPath, pathBytes, pathWritten}
-use Rattle.tree.specs.declared.cover.Node.{Node}
 use Rattle.tree.specs.Setup.{firstCode, Settings}
 use Rattle.tree.proofs.Agree.{Sized, sized-value}
 use Rattle.tree.proofs.ByteLaws.{written-fits}
-use Rattle.tree.proofs.Cases.{by-bool, and-true, not-both}
+use Rattle.tree.proofs.Cases.{not-both}
 use Rattle.tree.proofs.Cuts.{cover-path-sized}
 use Rattle.tree.proofs.Honest.{TrueAnswers, true-cover-gives-path}
 use Rattle.tree.proofs.Levels.{lg-below}
 use Rattle.tree.proofs.Paths.{path-bytes-length, path-whole}
 use Rattle.tree.proofs.Pieces.{piece-whole}
-use Rattle.tree.proofs.Tiles.{Tiled, cover-tiles}
 use Rattle.user.specs.declared.call.Kept.{Kept}
 use Rattle.user.specs.declared.call.Update.{Update}
 use Rattle.user.specs.declared.call.Write.{Write}
 use Rattle.user.specs.Asking.{settingsFit, keptFits, setupChecks, requestRoom}
 use Rattle.user.specs.Update.{UpdateLeft, freshUpdate, updateGoes, updateTaken, arrived}
-use Rattle.user.specs.Write.{Key, WriteLent, WriteLeft, withHeld, withHashes, withPath, withUpdate, openedAt, entryFits, targetFits, ownLeaf, heldEntry, freshWrite, writeRoom, writeStartChecks, writeStarted, writeAsks, writeWaits, writeRefused, openingChecks, opening, writeOpens, writeUpdates, writeGoes, writeTaken}
+use Rattle.user.specs.Write.{Key, WriteLent, WriteLeft, withHeld, withHashes, withPath, openedAt, entryFits, targetFits, ownLeaf, heldEntry, freshWrite, writeRoom, writeStartChecks, writeStarted, writeAsks, writeWaits, writeRefused, openingChecks, opening, writeOpens, writeUpdates, writeGoes, writeTaken}
 use Rattle.user.proofs.UpdateRules.{endedLeft}
 use Rattle.whole_run.specs.Honest.{Setup, settingsIn, set}
+use Rattle.whole_run.proofs.Requests.{entry-sizes}
+use Rattle.whole_run.proofs.Opening.{laid-length}
 use Rattle.whole_run.proofs.HonestState.{Item, texts, hashOf, OpenOk}
 use Rattle.whole_run.proofs.HonestLog.{same-hash}
-use Rattle.whole_run.proofs.Opening.{laid-length}
+use Rattle.whole_run.proofs.HonestFrames.{set-same, set-other}
+use Rattle.whole_run.proofs.HonestNodes.{cover-node}
+use Rattle.whole_run.proofs.HonestUpdates.{Arrived}
 
 -- the start of a Write
 module _ (s : Settings) (k : Kept) (m : WriteLent) (entry randomizer : List ℕ) (key : Key)
@@ -58,6 +59,7 @@ module _ (s : Settings) (k : Kept) (m : WriteLent) (entry randomizer : List ℕ)
       let m′ = withHeld m (written (m .held) 0 entry) in
       cond opened (writeAsks s k w m′) (writeWaits k w m′ (updateGoes s k freshUpdate (m .hashes) (m .request)))
 
+  -- a start whose checks pass leaves that
   pub start-goes : firstCode (writeStartChecks s k (m .path) entry key (m .request)) ≡ 0 → writeStarted s k m entry randomizer key ≡ started (k .opened)
   unfolding writeStarted
   start-goes z = rw z
@@ -78,14 +80,6 @@ unfolding heldEntry freshWrite
 entry-held k entry randomizer held size h =
     ap (take (length entry)) (written-fits held 0 entry (omega arith)) ∙ take-at entry _ (length entry) refl
 
-pub held-updated : (w : Write) (u : Update) (held : List ℕ) → heldEntry (withUpdate w u) held ≡ heldEntry w held
-unfolding heldEntry
-held-updated w u held = refl
-
-pub held-opened : (w : Write) (j : ℕ) (held : List ℕ) → heldEntry (openedAt w j) held ≡ heldEntry w held
-unfolding heldEntry
-held-opened w j held = refl
-
 -- an answer that the Update of a Write takes with code 0: the Update goes on, or has had its last answer
 module _ (s : Settings) (k : Kept) (w : Write) (m : WriteLent) (key : Key) (a : List ℕ) (u : UpdateLeft)
     (shut : w .opened ≡ false) (left : updateTaken s k (w .update) (m .hashes) (m .request) a ≡ u) (taken : u .step .code ≡ 0) where
@@ -99,9 +93,11 @@ module _ (s : Settings) (k : Kept) (w : Write) (m : WriteLent) (key : Key) (a : 
       ∙ ap (λ (x : UpdateLeft). after x (x .step .code) (x .step .ended)) left
       ∙ ap₂ (after u) taken e
 
+  -- the Update goes on
   pub write-waits : u .step .ended ≡ false → writeTaken s k w m key a ≡ writeWaits k w m u
   write-waits e = update-takes false e
 
+  -- it has had its last answer
   pub write-arrives : u .step .ended ≡ true → writeTaken s k w m key a ≡ writeOpens s k w m u a
   write-arrives e = update-takes true e
 
@@ -121,34 +117,11 @@ module _ (s : Settings) (k : Kept) (w′ : Write) (m : WriteLent) (a : List ℕ)
   unfolding openingChecks firstCode
   may-open = rw (lt-ltb w 1048576 within, target)
 
+  -- the first Reserve goes out, with the path laid
   pub write-opens : writeOpens s k w′ m (endedLeft k c hashes buffer) a
       ≡ writeAsks s (opening (arrived k c)) (openedAt w′ 0) (withPath (withHashes m hashes) (pathWritten (k .version) w hashes (ownLeaf s entry) (m .path)))
   unfolding writeOpens
   write-opens = ap₂ opens version held ∙ rw may-open
-
--- the nodes of a cover lie within the first w entries
-tiled-low : (o w : ℕ) (nodes : List Node) → Tiled o w nodes → o ≤ w
-unfolding Tiled
-tiled-low o w [] t = omega (arith, t)
-tiled-low o w (n ∷ ns) t = omega (arith, t .1, tiled-low (n .position) w ns (t .2))
-
-tiled-within : (o w : ℕ) (nodes : List Node) (j : ℕ) → Tiled o w nodes → j < length nodes
-    → (0 < getD nodes j (at 0 0) .position) × (getD nodes j (at 0 0) .position ≤ w)
-unfolding Tiled
-tiled-within o w [] j t h = absurd (omega arith)
-tiled-within o w (n ∷ ns) zero t h = (omega (arith, t .1, pow-pos (n .level)), tiled-low (n .position) w ns (t .2))
-tiled-within o w (n ∷ ns) (suc j) t h = tiled-within (n .position) w ns j (t .2) (omega arith)
-
-pub cover-within : (v w j : ℕ) → v ≤ w → j < length (cover v w)
-    → (0 < getD (cover v w) j (at 0 0) .position) × (getD (cover v w) j (at 0 0) .position ≤ w)
-cover-within v w j h i = tiled-within 0 w (cover v w) j (cover-tiles v w h) i
-
--- a log with another item at place w: that item, and the same ones elsewhere
-pub item-there : (L : ℕ → Item) (w : ℕ) (x : Item) → set L w x w ≡ x
-item-there L w x = rw (eq-eqb w w refl)
-
-pub item-elsewhere : (L : ℕ → Item) (w : ℕ) (x : Item) (i : ℕ) → (i ≡ w → ⊥) → set L w x i ≡ L i
-item-elsewhere L w x i n = rw (ne-eqb i w n)
 
 -- each node of a path that was laid into 672 bytes
 module _ (v w : ℕ) (hs : List ℕ) (e : Expr) (d : List ℕ) (vw : v ≤ w) (within : w < 1048576) (sized : Sized e) (size : length d ≡ 672) where
@@ -160,7 +133,7 @@ module _ (v w : ℕ) (hs : List ℕ) (e : Expr) (d : List ℕ) (vw : v ≤ w) (w
   joined zero = refl
   joined (suc n) = ap (λ (x : List ℕ). x ++ value (coverPath v w hs e n)) (joined n)
 
-  pub path-piece : (l : ℕ) → l ≤ lg (suc w) → piece (pathWritten v w hs e d) l ≡ value (coverPath v w hs e l)
+  path-piece : (l : ℕ) → l ≤ lg (suc w) → piece (pathWritten v w hs e d) l ≡ value (coverPath v w hs e l)
   path-piece l h =
       let n : ℕ = lg (suc w) + 1 in
       let low : lg (suc w) ≤ 20 = lg-below (suc w) 20 (omega arith) in
@@ -176,72 +149,62 @@ module _ (v w : ℕ) (hs : List ℕ) (e : Expr) (d : List ℕ) (vw : v ≤ w) (w
 -- over true answers it is the path of the entry in the log that has it at place w
 module _ (s : Settings) (L : ℕ → Item) (v w : ℕ) (hashes entry signature d : List ℕ) (vw : v ≤ w) (within : w < 1048576) (size : length d ≡ 672)
     (true-answers : TrueAnswers (leaves (texts L)) (cover v w) hashes) where
-  abbrev pub item : Item
+  -- the new item
+  abbrev item : Item
   item = record { author = s .own; entry = entry; signature = signature }
 
-  abbrev pub M : ℕ → Item
+  -- the log with it
+  abbrev M : ℕ → Item
   M = set L w item
 
   answers-still : TrueAnswers (leaves (texts M)) (cover v w) hashes
   answers-still j h =
-      let p = cover-within v w j vw h in
-      let last = p .1 in
+      let p = cover-node v w j vw h in
+      let last = p .high in
       true-answers j h
-      ∙ same-hash L M (getD (cover v w) j (at 0 0) .position) (getD (cover v w) j (at 0 0) .level) (p .0)
-      (λ i b. ap (λ (x : Item). entryText (x .author) (x .entry)) (sym (item-elsewhere L w item i (λ e. omega arith))))
+      ∙ same-hash L M (getD (cover v w) j (at 0 0) .position) (getD (cover v w) j (at 0 0) .level) (p .low)
+      (λ i b. ap (λ (x : Item). entryText (x .author) (x .entry)) (sym (set-other L w item i (λ e. omega arith))))
 
   own-leaf : value (ownLeaf s entry) ≡ value (leaves (texts M) w)
   unfolding ownLeaf
-  own-leaf = ap (λ (x : Item). value (leaf (entryText (x .author) (x .entry)))) (sym (item-there L w item))
+  own-leaf = ap (λ (x : Item). value (leaf (entryText (x .author) (x .entry)))) (sym (set-same L w item))
 
   leaf-sized : Sized (ownLeaf s entry)
   unfolding ownLeaf Sized
   leaf-sized = tt
 
-  pub opened-path : (l : ℕ) → l ≤ lg (suc w) → piece (pathWritten v w hashes (ownLeaf s entry) d) l ≡ hashOf M (suc w) l
+  opened-path : (l : ℕ) → l ≤ lg (suc w) → piece (pathWritten v w hashes (ownLeaf s entry) d) l ≡ hashOf M (suc w) l
   opened-path l h =
       path-piece v w hashes (ownLeaf s entry) d vw within leaf-sized size l h
       ∙ true-cover-gives-path v w (leaves (texts M)) hashes (ownLeaf s entry) l vw own-leaf answers-still h
 
+  -- the path's bytes stay 672
   pub opened-path-size : length (pathWritten v w hashes (ownLeaf s entry) d) ≡ 672
   opened-path-size = laid-length v w hashes (ownLeaf s entry) d ∙ size
 
--- an Update uses no number of the key
-number-kept : (k : Kept) (u : Update) → arrived k u .number ≡ k .number
-unfolding arrived
-number-kept k u =
-    let next : Kept = record { version = u .position; digest = u .digest; number = k .number; opened = k .opened; signed = k .signed } in
-    by-bool (λ b. cond b k next .number ≡ k .number) (eqb (u .position) 0) (λ _. refl) (λ _. refl)
-
--- the sizes that an entry may have
-pub entry-sizes : (entry : List ℕ) → entryFits entry ≡ true → (1 ≤ length entry) × (length entry ≤ 1024)
-unfolding entryFits
-entry-sizes entry e =
-    let some = and-true (leb 1 (length entry)) _ e in
-    let short = and-true (leb (length entry) 1024) _ (some .1) in
-    (leb-true 1 (length entry) (some .0), leb-true (length entry) 1024 (short .0))
-
 -- the write that has opened is as it should be, in the log that has its entry at place w
 module _ (c : Setup) (a : ℕ) (L : ℕ → Item) (k : Kept) (u : Update) (w : ℕ) (hashes entry signature path : List ℕ)
-    (one : 1 ≤ a) (listed : a ≤ c .count) (shaped : entryFits entry ≡ true) (spare : k .number < 1024) (version : arrived k u .version ≡ w)
-    (vw : k .version ≤ w) (within : w < 1048576) (size : length path ≡ 672) (true-answers : TrueAnswers (leaves (texts L)) (cover (k .version) w) hashes) where
+    (one : 1 ≤ a) (listed : a ≤ c .count) (shaped : entryFits entry ≡ true) (spare : k .number < 1024)
+    (there : Arrived w L k u hashes) (vw : k .version ≤ w) (within : w < 1048576) (size : length path ≡ 672) where
+  -- the new item
   abbrev pub openItem : Item
   openItem = record { author = a; entry = entry; signature = signature }
 
+  -- what holds of the open write
   pub opened-ok : OpenOk c (set L w openItem) w 0 a entry (opening (arrived k u))
       (pathWritten (k .version) w hashes (ownLeaf (settingsIn c a) entry) path) signature
   unfolding opening
   opened-ok =
-      let there = item-there L w openItem in
+      let new = set-same L w openItem in
       let sizes = entry-sizes entry shaped in
-      let same = number-kept k u in
+      let same = there .number in
       record {
-        version = version;
+        version = there .version;
         within = within;
-        item = record { one = rw there one; listed = rw there listed; some = rw there (sizes .0); short = rw there (sizes .1) };
-        author = ap (λ (x : Item). x .author) there;
-        entry = ap (λ (x : Item). x .entry) there;
-        path-ok = opened-path (settingsIn c a) L (k .version) w hashes entry signature path vw within size true-answers;
+        item = record { one = rw new one; listed = rw new listed; some = rw new (sizes .0); short = rw new (sizes .1) };
+        author = ap (λ (x : Item). x .author) new;
+        entry = ap (λ (x : Item). x .entry) new;
+        path-ok = opened-path (settingsIn c a) L (k .version) w hashes entry signature path vw within size (there .answers);
         signed = λ e. not-both false e refl;
         unsigned = λ _. (omega arith, omega arith);
       }

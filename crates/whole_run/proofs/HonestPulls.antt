@@ -11,7 +11,7 @@ use borrow.Author.Tests.{eq-eqb, ne-eqb, le-leb}
 use Rattle.sha256.specs.Bytes.{be}
 use Rattle.tree.specs.Level.{lg, isFull}
 use Rattle.tree.specs.Label.{owner}
-use Rattle.tree.specs.Expr.{entryText, leaf}
+use Rattle.tree.specs.Expr.{entryText}
 use Rattle.tree.specs.Message.{answer}
 use Rattle.tree.specs.Setup.{userCount}
 use Rattle.tree.proofs.Cases.{cases-eq}
@@ -27,8 +27,10 @@ use Rattle.user.specs.declared.ask.Want.{Want}
 use Rattle.user.specs.Asking.{asks}
 use Rattle.whole_run.specs.Honest.{Setup, InRange, publicTo, settingsIn, Server, serverLeft}
 use Rattle.whole_run.proofs.HonestState.{Item, texts, hashOf, bodyOf, recordOf, ServerOk, SignedOk, ItemOk, RightBody, CanAsk, PullRight}
+use Rattle.whole_run.proofs.HonestLog.{hash-size, hash-of-leaf}
+use Rattle.whole_run.proofs.HonestKeys.{user-count}
 use Rattle.whole_run.proofs.HonestServed.{server-is, head-in-log, Asked, asked-fields, early-asked, held, kindCode, answered-with}
-use Rattle.whole_run.proofs.HonestRecords.{hash-size, hash-of-leaf, node-in-log, full-within, body-fits, record-fields}
+use Rattle.whole_run.proofs.HonestRecords.{node-in-log, full-within, body-fits, record-fields}
 use Rattle.whole_run.proofs.HonestCounts.{has-old}
 
 -- what is asked for, from its fields
@@ -36,7 +38,7 @@ want-is : (want : Want) (kind p l : ℕ) → want .kind ≡ kind → want .posit
     → _≡_ {A = Want} (record { kind = kind; server = want .server; position = p; level = l }) want
 want-is want kind p l a b d = rw (← a, ← b, ← d)
 
-module _ (c : Setup) (range : InRange c) (counted : userCount (publicTo c (c .count)) ≡ c .count) (L : ℕ → Item) (w g : ℕ)
+module _ (c : Setup) (range : InRange c) (L : ℕ → Item) (w g : ℕ)
     (within : w ≤ 1048576) (items : (i : ℕ) → i < w → ItemOk c L i × SignedOk c L i) (x : Server) (a : ℕ) (one : 1 ≤ a) (last : a ≤ c .count) where
   -- one request with an empty body
   module _ (kind s p l : ℕ) (k : kind ≤ 4) (hp : p ≤ 1048576) (hl : l ≤ lg p) (node : nodeFits kind p l ≡ true)
@@ -59,7 +61,7 @@ module _ (c : Setup) (range : InRange c) (counted : userCount (publicTo c (c .co
     unfolding serverLeft bodyFits
     pulled body zero-code gives right =
         let f = fields in
-        let early = early-asked c counted a kind p l s [] q f one last node (rw (le-leb kind 4 k)) own in
+        let early = early-asked c (user-count c range) a kind p l s [] q f one last node (rw (le-leb kind 4 k)) own in
         let t = pull-changes-nothing (settingsIn c s) (x .head) (x .store) (x .used) q (replicate 2552 0) (rw (f .kind-is) k) in
         record {
           body = body;
@@ -175,17 +177,17 @@ module _ (c : Setup) (range : InRange c) (counted : userCount (publicTo c (c .co
         (λ e. absurd (omega arith), λ e. absurd (omega arith), λ e. absurd (omega arith), λ _. refl)
 
 -- What a user may ask for is answered rightly, whatever has arrived of the open write.
-pub pull-right : (c : Setup) → InRange c → userCount (publicTo c (c .count)) ≡ c .count → (L : ℕ → Item) (w g : ℕ) → w ≤ 1048576
+pub pull-right : (c : Setup) → InRange c → (L : ℕ → Item) (w g : ℕ) → w ≤ 1048576
     → ((i : ℕ) → i < w → ItemOk c L i × SignedOk c L i) → (x : Server) (a : ℕ) → 1 ≤ a → a ≤ c .count
     → (want : Want) → CanAsk c w want → ServerOk c L w g (want .server) x → PullRight c L w g a x want
-pull-right c range counted L w g within items x a one last want can ok =
+pull-right c range L w g within items x a one last want can ok =
     let low = can .first-kind in
     let high = can .last-kind in
     let put : (kind p l : ℕ) → want .kind ≡ kind → want .position ≡ p → want .level ≡ l
     → PullRight c L w g a x (record { kind = kind; server = want .server; position = p; level = l }) → PullRight c L w g a x want =
     λ kind p l ek ep el r. subst (λ (y : Want). PullRight c L w g a x y) (want-is want kind p l ek ep el) r in
     cases-eq (want .kind) 1
-    (λ e. let t = can .status e in put 1 0 0 e (t .0) (t .1) (status-right c range counted L w g within items x a one last (want .server) ok))
+    (λ e. let t = can .status e in put 1 0 0 e (t .0) (t .1) (status-right c range L w g within items x a one last (want .server) ok))
     (λ n.
     let two : 2 ≤ want .kind = omega arith in
     let s = want .server in
@@ -195,8 +197,8 @@ pull-right c range counted L w g within items x a one last want can ok =
     let hp = can .high two in
     let own = sym (can .owned two) in
     cases-eq (want .kind) 2
-    (λ e. put 2 p l e refl refl (node-right c range counted L w g within items x a one last s p l lp hp ok own (can .full e)))
+    (λ e. put 2 p l e refl refl (node-right c range L w g within items x a one last s p l lp hp ok own (can .full e)))
     (λ m. cases-eq (want .kind) 3
-    (λ e. put 3 p l e refl refl (entry-right c range counted L w g within items x a one last s p l lp hp ok own (can .leaf e)))
+    (λ e. put 3 p l e refl refl (entry-right c range L w g within items x a one last s p l lp hp ok own (can .leaf e)))
     (λ o. let e : want .kind ≡ 4 = omega arith in
-    put 4 p l e refl refl (commit-right c range counted L w g within items x a one last s p l lp hp ok own (can .top e)))))
+    put 4 p l e refl refl (commit-right c range L w g within items x a one last s p l lp hp ok own (can .top e)))))

@@ -1,6 +1,5 @@
 -- Every request of an honest write, first or again, is accepted by its owner, and what holds of all servers holds after it.
 use mathlib.Core.Path.{_≡_, refl, ap, sym, _∙_, subst}
-use mathlib.Core.Bool.{cond}
 use mathlib.Core.List.{List, []}
 use Prim.Native.Nat.{ℕ, suc, _+_, _≤_, _<_, max}
 use native.Mathlib.Omega.{arith}
@@ -9,15 +8,15 @@ use borrow.Author.Tests.{le-leb}
 use Rattle.tree.specs.Level.{lg}
 use Rattle.tree.specs.Label.{owner}
 use Rattle.tree.specs.Message.{answer}
-use Rattle.tree.specs.Setup.{userCount}
-use Rattle.tree.proofs.Cases.{by-eqb, cases-le, cases-eq}
+use Rattle.tree.proofs.Cases.{cases-le, cases-eq}
 use Rattle.tree.proofs.Labels.{owner-range}
 use Rattle.user.specs.declared.ask.Want.{Want}
 use Rattle.user.specs.Asking.{ofNode}
 use Rattle.user.specs.Write.{commitNumber, writeKind, writeLevel, writeWant}
-use Rattle.whole_run.specs.Honest.{Setup, InRange, publicTo, Server, set, answerBytes, serverLeft}
+use Rattle.whole_run.specs.Honest.{Setup, InRange, Server, set, answerBytes, serverLeft}
 use Rattle.whole_run.specs.HonestClaim.{storedTo}
 use Rattle.whole_run.proofs.HonestState.{Item, digestOf, bodyOf, numberOf, ServerOk, RoomLeft, SignedOk, ItemOk, serving, bodyAt, PutRight}
+use Rattle.whole_run.proofs.HonestFrames.{by-set}
 use Rattle.whole_run.proofs.HonestReserves.{reserve-elsewhere, reserve-given, reserve-again, next-left, reserve-next}
 use Rattle.whole_run.proofs.HonestStores.{put-elsewhere, put-again, put-again-given, put-next, put-next-given, put-next-used, put-next-length}
 use Rattle.whole_run.proofs.HonestRoom.{PutAt, put-at, stored-more, stored-own, room-stays}
@@ -30,11 +29,7 @@ record Accepted (c : Setup) (L : ℕ → Item) (w g : ℕ) (x : ℕ → Server) 
   pub room : (s : ℕ) → 1 ≤ s → s ≤ c .servers
       → RoomLeft c L w g s (set x (want .server) (serverLeft (serving c (L w .author) (want .server) (x (want .server)) want body)) s)
 
--- what holds of one server changed and of the others
-by-set : (P : ℕ → Server → Type 0) (x : ℕ → Server) (i : ℕ) (y : Server) (s : ℕ) → P i y → ((s ≡ i → ⊥) → P s (x s)) → P s (set x i y s)
-by-set P x i y s p q = by-eqb (λ b. P s (cond b y (x s))) s i (λ e. subst (λ (k : ℕ). P k y) (sym e) p) q
-
-module _ (c : Setup) (range : InRange c) (counted : userCount (publicTo c (c .count)) ≡ c .count) (L : ℕ → Item) (w g : ℕ) (x : ℕ → Server)
+module _ (c : Setup) (range : InRange c) (L : ℕ → Item) (w g : ℕ) (x : ℕ → Server)
     (within : w < 1048576) (item : ItemOk c L w)
     (good : (s : ℕ) → 1 ≤ s → s ≤ c .servers → ServerOk c L w g s (x s))
     (free : (s : ℕ) → 1 ≤ s → s ≤ c .servers → RoomLeft c L w g s (x s)) where
@@ -69,14 +64,14 @@ module _ (c : Setup) (range : InRange c) (counted : userCount (publicTo c (c .co
     given-reserve : answerBytes (serving c (L w .author) s (x s) (asking 5 j) (digestOf L (suc w))) ≡ answer 5 s (suc w) j 0 []
     given-reserve =
         let r = in-range j in
-        reserve-given c range L w g s (r .0) (r .1) (x s) (good s (r .0) (r .1)) counted within item j level refl
+        reserve-given c range L w g s (r .0) (r .1) (x s) (good s (r .0) (r .1)) within item j level refl
 
     -- one that has arrived already changes nothing
     reserved-again : j < g → Accepted c L w g x (asking 5 j) (digestOf L (suc w))
     reserved-again b =
         let r = in-range j in
         unchanged (asking 5 j) (digestOf L (suc w)) given-reserve
-        (reserve-again c range L w g s (r .0) (r .1) (x s) (good s (r .0) (r .1)) counted within item j level refl b)
+        (reserve-again c range L w g s (r .0) (r .1) (x s) (good s (r .0) (r .1)) within item j level refl b)
 
     -- the next one becomes its owner's head
     reserved-next : j ≡ g → Accepted c L w (suc g) x (asking 5 j) (digestOf L (suc w))
@@ -86,12 +81,12 @@ module _ (c : Setup) (range : InRange c) (counted : userCount (publicTo c (c .co
         record {
           given = given-reserve;
           all-ok = λ t a b. by-set (λ i y. 1 ≤ i → i ≤ c .servers → ServerOk c L w (suc g) i y) x s _ t
-              (λ p q. reserve-next c range L w g s (r .0) (r .1) (x s) ok counted within item j level refl e)
+              (λ p q. reserve-next c range L w g s (r .0) (r .1) (x s) ok within item j level refl e)
               (λ n p q. reserve-elsewhere c range L w g t p q (x t) (good t p q) (omega arith)
               (λ o. n (sym o ∙ ap (owner (c .servers) (suc w)) (sym e)))) a b;
           room = λ t a b. by-set (λ i y. 1 ≤ i → i ≤ c .servers → RoomLeft c L w (suc g) i y) x s _ t
               (λ p q. subst (λ (y : Server). RoomLeft c L w (suc g) s y)
-              (sym (next-left c range L w g s (r .0) (r .1) (x s) ok counted within item j level refl e)) (room-stays c L w g s (x s) (free s p q)))
+              (sym (next-left c range L w g s (r .0) (r .1) (x s) ok within item j level refl e)) (room-stays c L w g s (x s) (free s p q)))
               (λ _ p q. room-stays c L w g t (x t) (free t p q)) a b;
         }
 
@@ -122,8 +117,8 @@ module _ (c : Setup) (range : InRange c) (counted : userCount (publicTo c (c .co
         let n : numberOf kind (suc w) l < g = let t = request .number in omega arith in
         let s8 : kind ≡ 8 → SignedOk c L w = λ e. signed (request .commit e) in
         unchanged (asking kind l) body
-        (put-again-given c range L w g to (r .0) (r .1) (x to) ok counted within item kind l (request .put) (request .node) refl s8 arrived n)
-        (put-again c range L w g to (r .0) (r .1) (x to) ok counted within item kind l (request .put) (request .node) refl s8 arrived n)
+        (put-again-given c range L w g to (r .0) (r .1) (x to) ok within item kind l (request .put) (request .node) refl s8 arrived n)
+        (put-again c range L w g to (r .0) (r .1) (x to) ok within item kind l (request .put) (request .node) refl s8 arrived n)
 
     -- the bytes that it stores
     takes : storedTo (c .servers) (suc w) (length (L w .entry)) to (suc j) ≡ storedTo (c .servers) (suc w) (length (L w .entry)) to j + (12 + length body)
@@ -154,15 +149,15 @@ module _ (c : Setup) (range : InRange c) (counted : userCount (publicTo c (c .co
         let ok = good to (r .0) (r .1) in
         let n : numberOf kind (suc w) l ≡ g = request .number ∙ e in
         let s8 : kind ≡ 8 → SignedOk c L w = λ q. signed (request .commit q) in
-        let used = put-next-used c range L w g to (r .0) (r .1) (x to) ok counted within item kind l (request .put) (request .node) refl s8 arrived n (enough e) in
-        let size = put-next-length c range L w g to (r .0) (r .1) (x to) ok counted within item kind l (request .put) (request .node) refl s8 arrived n (enough e) in
+        let used = put-next-used c range L w g to (r .0) (r .1) (x to) ok within item kind l (request .put) (request .node) refl s8 arrived n (enough e) in
+        let size = put-next-length c range L w g to (r .0) (r .1) (x to) ok within item kind l (request .put) (request .node) refl s8 arrived n (enough e) in
         let more = takes-next e in
         record {
           given =
-              put-next-given c range L w g to (r .0) (r .1) (x to) ok counted within item kind l (request .put) (request .node) refl s8 arrived n (enough e);
+              put-next-given c range L w g to (r .0) (r .1) (x to) ok within item kind l (request .put) (request .node) refl s8 arrived n (enough e);
           all-ok = λ t a b. by-set (λ i y. 1 ≤ i → i ≤ c .servers → ServerOk c L w (suc g) i y) x to _ t
               (λ p q.
-              put-next c range L w g to (r .0) (r .1) (x to) ok counted within item kind l (request .put) (request .node) refl s8 arrived n (enough e))
+              put-next c range L w g to (r .0) (r .1) (x to) ok within item kind l (request .put) (request .node) refl s8 arrived n (enough e))
               (λ m p q. put-elsewhere c L w g t (x t) (good t p q) kind l (request .put) (request .node) n (λ o. m (sym o))) a b;
           room = λ t a b. by-set (λ i y. 1 ≤ i → i ≤ c .servers → RoomLeft c L w (suc g) i y) x to _ t
               (λ p q. let f = free to p q in omega arith)
@@ -196,24 +191,24 @@ put-right-by c L w g j x now kind l body ek el eb en a =
     record { given = f .given; all-ok = f .all-ok; room = f .room }
 
 -- Every request of the open write that is one of those arrived, or the next, is accepted.
-pub put-right : (c : Setup) → InRange c → userCount (publicTo c (c .count)) ≡ c .count → (L : ℕ → Item) (w g j : ℕ) (x : ℕ → Server)
-    → w < 1048576 → ItemOk c L w → j ≤ g → g ≤ suc (commitNumber (suc w)) → j ≤ commitNumber (suc w) → (j ≡ commitNumber (suc w) → SignedOk c L w)
+pub put-right : (c : Setup) → InRange c → (L : ℕ → Item) (w g j : ℕ) (x : ℕ → Server)
+    → w < 1048576 → ItemOk c L w → j ≤ g → j ≤ commitNumber (suc w) → (j ≡ commitNumber (suc w) → SignedOk c L w)
     → ((s : ℕ) → 1 ≤ s → s ≤ c .servers → ServerOk c L w g s (x s))
     → ((s : ℕ) → 1 ≤ s → s ≤ c .servers → RoomLeft c L w g s (x s))
     → PutRight c L w g j x
-put-right c range counted L w g j x within item come few last signed good free =
+put-right c range L w g j x within item come last signed good free =
     cases-le j (lg (suc w))
     (λ level.
     let k : writeKind (suc w) j ≡ 5 = reserve-kind (suc w) j level in
     let l : writeLevel (suc w) j ≡ j = reserve-level (suc w) j level in
     let b : bodyAt L w j ≡ digestOf L (suc w) = rw (le-leb j (lg (suc w)) level) in
     cases-eq j g
-    (λ e. put-right-by c L w g j x (suc g) 5 j (digestOf L (suc w)) k l b (omega arith) (reserved-next c range counted L w g x within item good free j level e))
-    (λ n. put-right-by c L w g j x g 5 j (digestOf L (suc w)) k l b (omega arith) (reserved-again c range counted L w g x within item good free j level (omega arith))))
+    (λ e. put-right-by c L w g j x (suc g) 5 j (digestOf L (suc w)) k l b (omega arith) (reserved-next c range L w g x within item good free j level e))
+    (λ n. put-right-by c L w g j x g 5 j (digestOf L (suc w)) k l b (omega arith) (reserved-again c range L w g x within item good free j level (omega arith))))
     (λ behind.
     let r = put-at c L w j within behind last in
     cases-eq j g
     (λ e. put-right-by c L w g j x (suc g) _ _ _ (r .kind-is) (r .level-is) (r .body-is) (omega arith)
-    (put-now c range counted L w g x within item good free j r come behind last signed e))
+    (put-now c range L w g x within item good free j r come behind last signed e))
     (λ n. put-right-by c L w g j x g _ _ _ (r .kind-is) (r .level-is) (r .body-is) (omega arith)
-    (put-before c range counted L w g x within item good free j r come behind last signed (omega arith))))
+    (put-before c range L w g x within item good free j r come behind last signed (omega arith))))

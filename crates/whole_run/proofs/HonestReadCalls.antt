@@ -1,33 +1,26 @@
 -- An answer to a Read of an honest run: it is right, it is taken, and the Read goes on or gives what was written.
 use mathlib.Core.Path.{_≡_, refl, ap, ap₂, sym, _∙_, subst}
-use mathlib.Core.Bool.{Bool, true, false, cond}
-use mathlib.Core.List.{List, [], _∷_, _++_, append-nil}
-use Prim.Native.Nat.{ℕ, suc, _+_, _-_, _*_, _≤_, _<_}
+use mathlib.Core.List.{List, [], _∷_, append-nil}
+use Prim.Native.Nat.{ℕ, suc, _-_, _≤_, _<_}
 use native.Mathlib.Omega.{arith}
-use lib.Dec.{eqb}
 use lib.ListN.{length, take}
-use borrow.Author.Tests.{eq-eqb, ne-eqb}
-use Rattle.sha256.proofs.Cases.{by-bool}
-use Rattle.tree.specs.Bytes.{written}
-use Rattle.tree.proofs.ByteLaws.{written-length}
-use Rattle.tree.proofs.Cases.{cases-eq}
 use Rattle.user.specs.declared.call.Read.{Read}
-use Rattle.user.specs.declared.call.Step.{Step}
 use Rattle.user.specs.declared.ask.Want.{Want}
-use Rattle.user.specs.Asking.{asks, asking, done}
+use Rattle.user.specs.Asking.{asking, done}
 use Rattle.user.specs.Read.{ReadLent, ReadLeft, readCount, readWant, readWith, readNext, readHashes, readHeld, readAsks, readEnds, readTaken}
 use Rattle.whole_run.specs.World.{User, Lent, reading, Reading, startRead, sentBy, readLent, newReads, afterRead, returned, taking}
-use Rattle.whole_run.specs.Honest.{Setup, InRange, settingsIn, Network, reply, answerBytes, arrives, takenStep, Run, wrote}
-use Rattle.whole_run.specs.HonestClaim.{ValidMemory, writtenAt, Serves}
-use Rattle.whole_run.proofs.HonestState.{Item, Good, ReadOk, PullRight}
-use Rattle.whole_run.proofs.HonestFrames.{set-same, sent-for}
+use Rattle.whole_run.specs.Honest.{Setup, InRange, settingsIn, Network, arrives, takenStep, Run, wrote}
+use Rattle.whole_run.specs.HonestClaim.{writtenAt, Serves}
+use Rattle.whole_run.proofs.HonestState.{ReadOk, PullRight}
+use Rattle.whole_run.proofs.HonestFrames.{sent-for, request-room}
 use Rattle.whole_run.proofs.HonestAnswers.{Fit, answerTo}
 use Rattle.whole_run.proofs.HonestReads.{read-asks, read-right, read-hashes-size, read-held-size}
-use Rattle.whole_run.proofs.HonestMoves.{withUser, still-alone, good-next, good-servers, leaves-same}
-use Rattle.whole_run.proofs.HonestExchanges.{exchanged, handedBy, Exchanges, exchange-is, pull-comes, pull-keeps}
-use Rattle.whole_run.proofs.HonestCalls.{ReadCall, CallOk, Holds, begunBy, OnWay, Over, Stepped, Late}
+use Rattle.whole_run.proofs.HonestMoves.{withUser, Leaves}
+use Rattle.whole_run.proofs.HonestExchanges.{Exchanges, exchange-is, pull-comes, pull-keeps}
+use Rattle.whole_run.proofs.HonestCalls.{ReadCall, CallOk, Holds, begunBy, OnWay, Stepped, Late}
+use Rattle.whole_run.proofs.HonestSteps.{GoesOn, Ends, stepped, goes-on, is-over, pull-leaves, pull-late}
 use Rattle.whole_run.proofs.HonestStarts.{fit-user}
-use Rattle.whole_run.proofs.HonestUpdateCalls.{pull-in}
+use Rattle.whole_run.proofs.HonestUpdateAnswers.{pull-in}
 
 module _ (c : Setup) (range : InRange c) (r : Run) (a : ℕ) (m : Lent) (i left : ℕ) (x : Network) (one : 1 ≤ a) (last : a ≤ c .count)
     (o : OnWay c r a (startRead m i) (suc left) x) where
@@ -70,19 +63,16 @@ module _ (c : Setup) (range : InRange c) (r : Run) (a : ℕ) (m : Lent) (i left 
   abbrev taken : ReadLeft
   taken = readTaken (settingsIn c a) (who .kept) now (readLent (who .lent)) (answerTo want body)
 
-  swap : Exchanges c x a (answerTo want body) (reading now)
-  swap = exchange-is c x a (answerTo want body) (reading now) (call .is) (pull-comes c (o .log) (o .w) (o .g) a x want pull (call .sent))
+  -- what the answer leaves of the user, l being what the Read leaves of it
+  abbrev leaving : ReadLeft → User
+  leaving l = afterRead who (who .lent) l
 
   abbrev network : ReadLeft → Network
-  network l = withUser x a (afterRead who (who .lent) l) (arrives c x a .servers)
+  network l = withUser x a (leaving l) (arrives c x a .servers)
 
-  after-is : exchanged c x a ≡ network taken
-  unfolding taking
-  after-is = swap .next
-
-  handed-is : handedBy c x a ≡ taken .step
-  unfolding takenStep
-  handed-is = swap .hands
+  swap : Exchanges c x a (leaving taken) (taken .step)
+  unfolding taking takenStep
+  swap = exchange-is c x a (answerTo want body) (reading now) (call .is) (pull-comes c (o .log) (o .w) (o .g) a x want pull (call .sent))
 
   kept-servers : (s : ℕ) → arrives c x a .servers s ≡ x .servers s
   kept-servers = pull-keeps c (o .log) (o .w) (o .g) a x want pull (call .sent)
@@ -103,20 +93,10 @@ module _ (c : Setup) (range : InRange c) (r : Run) (a : ℕ) (m : Lent) (i left 
       in
       record { on = p .0; ends = p .1 }
 
-  later-asked : later .asked ≡ suc (now .asked)
-  unfolding readNext
-  later-asked = refl
-
   -- a step of the Read changes its memory only
-  module _ (l : ReadLeft) where
-    abbrev then : User
-    then = afterRead who (who .lent) l
-
-    good : Good c (o .log) (o .w) (o .g) b (network l)
-    unfolding afterRead
-    good =
-        good-next c (o .log) (o .log) (o .w) (o .w) (o .g) (o .g) a b b x (o .good) (o .alone) (omega arith) (λ j h. refl) then (arrives c x a .servers)
-        (leaves-same c (o .log) (o .w) (o .g) a b x (o .good) (o .alone) then (arrives c x a .servers) (b a) refl refl refl (λ _. refl) (λ s _. kept-servers s))
+  leaves : (l : ReadLeft) → Leaves c (o .log) (o .w) (o .g) a (b a) (leaving l) (arrives c x a .servers)
+  unfolding afterRead
+  leaves l = pull-leaves c r a (startRead m i) left x o kept-servers (leaving l) refl refl refl
 
   hashes-size : length (memory .hashes) ≡ 1248
   hashes-size = read-hashes-size now body (who .lent .hashes) ∙ call .memory .hashes
@@ -132,10 +112,7 @@ module _ (c : Setup) (range : InRange c) (r : Run) (a : ℕ) (m : Lent) (i left 
     abbrev going : ReadLeft
     going = readAsks (settingsIn c a) (who .kept) later memory
 
-    goes-on : taken ≡ going
-    goes-on = right .on few .0
-
-    then-call : ReadCall c (o .log) (o .w) a i left (afterRead who (who .lent) going)
+    then-call : ReadCall c (o .log) (o .w) a i left (leaving going)
     unfolding afterRead readAsks asking readNext
     then-call =
         record {
@@ -145,7 +122,7 @@ module _ (c : Setup) (range : InRange c) (r : Run) (a : ℕ) (m : Lent) (i left 
               record {
                 hashes = hashes-size;
                 held = held-size;
-                request = omega (arith, call .memory .request, written-length (who .lent .request) 0 (asks (settingsIn c a) (readWant (c .servers) v later) []));
+                request = request-room (who .lent .request) _ (call .memory .request);
               };
           room = call .room;
           one = call .one;
@@ -158,17 +135,13 @@ module _ (c : Setup) (range : InRange c) (r : Run) (a : ℕ) (m : Lent) (i left 
 
     read-on : OnWay c r a (startRead m i) left (network going)
     unfolding CallOk afterRead readAsks asking newReads returned
-    read-on =
-        record {
-          log = o .log;
-          w = o .w;
-          g = o .g;
-          good = good going;
-          holds = o .holds;
-          alone = still-alone x a (afterRead who (who .lent) going) (arrives c x a .servers) (o .alone);
-          reads = ap (λ (z : User). z .reads) (set-same (x .users) a (afterRead who (who .lent) going)) ∙ o .reads;
-          call = subst (ReadCall c (o .log) (o .w) a i left) (sym (set-same (x .users) a (afterRead who (who .lent) going))) then-call;
-        }
+    read-on = goes-on c r a (startRead m i) left x o (o .log) (o .g) (leaving going) (λ j h. refl) (leaves going) refl then-call
+
+    read-goes-on : GoesOn c r a (startRead m i) left (taken .step) (network taken)
+    unfolding readAsks asking
+    read-goes-on =
+        subst (λ (l : ReadLeft). GoesOn c r a (startRead m i) left (l .step) (network l)) (sym (right .on few .0))
+        (record { code = refl; ended = refl; on-way = read-on })
 
   -- the Read has ended
   module _ (over-now : left ≡ 0) where
@@ -178,14 +151,8 @@ module _ (c : Setup) (range : InRange c) (r : Run) (a : ℕ) (m : Lent) (i left 
     abbrev ending : ReadLeft
     ending = readEnds later memory
 
-    ends-now : taken ≡ ending
-    ends-now = right .ends all .0
-
-    abbrev done-user : User
-    done-user = afterRead who (who .lent) ending
-
     -- it gives what was written
-    gives : done-user .reads ≡ record { position = i; author = writtenAt (r .log) (i - 1) .author; entry = writtenAt (r .log) (i - 1) .entry } ∷ r .network .users a .reads
+    gives : leaving ending .reads ≡ record { position = i; author = writtenAt (r .log) (i - 1) .author; entry = writtenAt (r .log) (i - 1) .entry } ∷ r .network .users a .reads
     unfolding afterRead newReads returned readEnds done readNext
     gives =
         let p = right .ends all in
@@ -195,34 +162,22 @@ module _ (c : Setup) (range : InRange c) (r : Run) (a : ℕ) (m : Lent) (i left 
         ∙ ap₂ f (p .1 ∙ o .holds .author (i - 1) h) (p .2 ∙ o .holds .entry (i - 1) h)
         ∙ ap (λ (rs : List Reading). record { position = i; author = writtenAt (r .log) (i - 1) .author; entry = writtenAt (r .log) (i - 1) .entry } ∷ rs) (o .reads)
 
-    read-over : (z : Step) → Over c r a (startRead m i) z (network ending)
+    read-ends : Ends c r a (startRead m i) (taken .step) (network taken)
     unfolding wrote Serves sentBy done afterRead readEnds
-    read-over z =
-        record {
-          log = o .log;
-          w = o .w;
-          g = o .g;
-          good = good ending;
-          holds = subst (Holds (o .log) (o .w)) (sym (append-nil (r .log))) (o .holds);
-          none-out = ap (λ (u : User). u .sent .server) (set-same (x .users) a done-user);
-          serves = ap (λ (u : User). u .reads) (set-same (x .users) a done-user) ∙ gives;
-        }
+    read-ends =
+        subst (λ (l : ReadLeft). Ends c r a (startRead m i) (l .step) (network l)) (sym (right .ends all .0))
+        (record {
+          code = refl;
+          ended = refl;
+          over =
+              is-over c r a (startRead m i) left x o (o .w) (o .g) (leaving ending) done (omega arith) (leaves ending)
+              (subst (Holds (o .log) (o .w)) (sym (append-nil (r .log))) (o .holds)) refl gives;
+        })
 
   -- a pull whose answer is lost has changed nothing
   pub read-late : Late c (o .log) (o .w) (begunBy r a (startRead m i)) (arrives c x a)
-  unfolding arrives
-  read-late = record { g = o .g; good = good-servers c (o .log) (o .w) (o .g) b x (arrives c x a) (o .good) (λ j. refl) (λ s _. kept-servers s) }
+  read-late = pull-late c r a (startRead m i) left x o kept-servers
 
+  -- the answer is taken: the Read goes on, or gives what was written
   pub read-step : Stepped c r a (startRead m i) left x
-  unfolding readAsks readEnds asking done
-  read-step =
-      record {
-        code = ap (λ (s : Step). s .code) handed-is ∙ cases-eq left 0 (λ z. ap (λ (l : ReadLeft). l .step .code) (ends-now z)) (λ z. ap (λ (l : ReadLeft). l .step .code) (goes-on (omega (arith, z))));
-        ended =
-            ap (λ (s : Step). s .ended) handed-is
-            ∙ cases-eq left 0
-            (λ z. ap (λ (l : ReadLeft). l .step .ended) (ends-now z) ∙ sym (eq-eqb left 0 z))
-            (λ z. ap (λ (l : ReadLeft). l .step .ended) (goes-on (omega (arith, z))) ∙ sym (ne-eqb left 0 z));
-        goes-on = λ z. subst (OnWay c r a (startRead m i) left) (sym (after-is ∙ ap network (goes-on z))) (read-on z);
-        over = λ z. subst (Over c r a (startRead m i) (handedBy c x a)) (sym (after-is ∙ ap network (ends-now z))) (read-over z (handedBy c x a));
-      }
+  read-step = stepped c r a (startRead m i) left x (leaving taken) (taken .step) swap read-goes-on read-ends

@@ -1,23 +1,18 @@
 -- A valid Read of an honest run starts.
 use mathlib.Core.Path.{_≡_, refl, ap, sym, _∙_, subst}
-use mathlib.Core.List.{List, []}
-use Prim.Native.Nat.{ℕ, suc, _+_, _≤_, _<_}
+use mathlib.Core.List.{[]}
+use Prim.Native.Nat.{ℕ, _≤_}
 use native.Mathlib.Omega.{arith}
 use native.Mathlib.Nat.{zero-add}
 use lib.ListN.{length}
-use borrow.Author.Tests.{le-leb}
-use Rattle.tree.specs.Setup.{firstCode}
-use Rattle.tree.proofs.ByteLaws.{written-length}
-use Rattle.user.specs.declared.call.Read.{Read}
-use Rattle.user.specs.Asking.{setupChecks, requestRoom, asks, asking}
-use Rattle.user.specs.Read.{ReadLent, ReadLeft, readCount, readWant, readChecks, freshRead, readAsks, readStarted}
+use Rattle.user.specs.Asking.{asking}
+use Rattle.user.specs.Read.{ReadLent, ReadLeft, readCount, readWant, freshRead, readAsks, readStarted}
 use Rattle.whole_run.specs.World.{User, Lent, startRead, readLent, newReads, afterRead, returned, userStep}
-use Rattle.whole_run.specs.Honest.{Setup, InRange, settingsIn, Network, steps, stepOf, Run, begins}
+use Rattle.whole_run.specs.Honest.{Setup, InRange, settingsIn, steps, stepOf, Run, begins}
 use Rattle.whole_run.specs.HonestClaim.{ValidMemory, ValidInput, ValidCall, answersOf, countOf}
-use Rattle.whole_run.proofs.HonestState.{Item, ReadOk}
-use Rattle.whole_run.proofs.HonestFrames.{sent-for}
-use Rattle.whole_run.proofs.HonestAnswers.{Fit}
+use Rattle.whole_run.proofs.HonestFrames.{sent-for, request-room}
 use Rattle.whole_run.proofs.HonestNodes.{read-count}
+use Rattle.whole_run.proofs.HonestAnswers.{Fit}
 use Rattle.whole_run.proofs.HonestReads.{fresh-read, read-starts}
 use Rattle.whole_run.proofs.HonestMoves.{withUser}
 use Rattle.whole_run.proofs.HonestCalls.{ReadCall, CallOk, Between, OnWay, Started}
@@ -72,7 +67,7 @@ module _ (c : Setup) (range : InRange c) (r : Run) (a : ℕ) (m : Lent) (i : ℕ
             record {
               hashes = given .memory .hashes;
               held = given .memory .held;
-              request = omega (arith, given .memory .request, written-length (m .request) 0 (asks (settingsIn c a) (readWant (c .servers) (user .kept .version) (freshRead i)) []));
+              request = request-room (m .request) _ (given .memory .request);
             };
         room = given .entry;
         one = given .one;
@@ -83,6 +78,7 @@ module _ (c : Setup) (range : InRange c) (r : Run) (a : ℕ) (m : Lent) (i : ℕ
         count = zero-add _ ∙ counted;
       }
 
+  -- a valid Read starts
   pub read-start : Started c r a (startRead m i) n
   unfolding steps stepOf userStep CallOk begins readAsks asking afterRead newReads returned readCount
   read-start =

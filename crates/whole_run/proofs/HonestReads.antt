@@ -28,8 +28,9 @@ use Rattle.user.proofs.ReadRules.{handed}
 use Rattle.user.proofs.Reading.{want-operation, want-node}
 use Rattle.whole_run.specs.Honest.{Setup, publicTo, settingsIn}
 use Rattle.whole_run.proofs.HonestState.{Item, texts, hashOf, ItemOk, RightBody, CanAsk, ReadOk}
+use Rattle.whole_run.proofs.HonestLog.{hash-size}
 use Rattle.whole_run.proofs.HonestNodes.{FullNode, read-node, read-at-most-39, piece-written, piece-before}
-use Rattle.whole_run.proofs.HonestAnswers.{Fit, answer-passes, group-of, answerTo, node-asks, hash-size, text-size, right-code, right-body, right-shape}
+use Rattle.whole_run.proofs.HonestAnswers.{Fit, answer-passes, group-of, answerTo, node-asks, text-size, right-code, right-body, right-shape}
 
 -- a Read that has taken in no answer
 pub fresh-read : (v i : ℕ) (L : ℕ → Item) (hashes held : List ℕ) → ReadOk v i L (freshRead i) hashes held

@@ -2,47 +2,22 @@
 use mathlib.Core.Path.{_≡_, ap, sym, _∙_}
 use mathlib.Core.Bool.{true, false≢true}
 use mathlib.Core.List.{List, [], _++_, append-nil}
-use Prim.Native.Nat.{ℕ, zero, suc, _+_, _-_, _*_, _/_, _^_, _≤_, _<_}
+use Prim.Native.Nat.{ℕ, _-_, _^_, _≤_, _<_}
 use native.Mathlib.Omega.{arith}
 use lib.ListN.{length, length-append}
 use borrow.Author.Tests.{ne-eqb, le-leb, lt-ltb, leb-true, eqb-true}
-use Rattle.sha256.proofs.Hashes.{sha256-length}
 use Rattle.tree.specs.Level.{lg, isFull}
-use Rattle.tree.specs.Expr.{leaf, value}
-use Rattle.tree.specs.Tree.{tree, leaves, digest, node, blockOf}
 use Rattle.tree.specs.Message.{stored, recordKind, recordPosition, recordLevel, recordAuthor, recordBody}
 use Rattle.tree.specs.Setup.{inLog}
-use Rattle.tree.proofs.Cases.{by-leb, cases-eq, and-true}
+use Rattle.tree.proofs.Cases.{cases-eq, and-true}
 use Rattle.tree.proofs.Levels.{lg-below, lg-mono, lg-power, full-low}
 use Rattle.tree.proofs.Messages.{record-kind, record-position, record-level, record-author, record-body, stored-length}
 use Rattle.server.specs.Shape.{levelFits, nodeFits, bodyFits}
 use Rattle.server.specs.Store.{isStored}
 use Rattle.server.proofs.Asked.{body-small, names-node}
 use Rattle.whole_run.specs.Honest.{Setup, InRange}
-use Rattle.whole_run.proofs.HonestState.{Item, texts, hashOf, digestOf, bodyOf, recordOf, SignedOk, ItemOk}
-
--- a hash of the log has 32 bytes
-tree-size : (f : ℕ → List ℕ) (k o m : ℕ) → length (value (tree (leaves f) k o m)) ≡ 32
-unfolding tree value
-tree-size f zero o m = sha256-length _
-tree-size f (suc k) o m =
-    by-leb (λ b. length (value (Rattle.tree.specs.Tree.above (λ o m. tree (leaves f) k o m) k o m b)) ≡ 32) m (2 ^ k)
-    (λ _. sha256-length _) (λ _. sha256-length _)
-
--- so has the hash of a node
-pub hash-size : (L : ℕ → Item) (p l : ℕ) → length (hashOf L p l) ≡ 32
-unfolding node
-hash-size L p l = tree-size (texts L) l _ _
-
--- and so has a digest
-pub digest-size : (L : ℕ → Item) (p : ℕ) → length (digestOf L p) ≡ 32
-unfolding digest
-digest-size L p = tree-size (texts L) (lg p) 0 p
-
--- the node of level 0 is the leaf of the entry
-pub hash-of-leaf : (L : ℕ → Item) (p : ℕ) → hashOf L p 0 ≡ value (leaf (texts L (p - 1)))
-unfolding node tree blockOf
-hash-of-leaf L p = let e : (p - 1) / 1 * 1 ≡ p - 1 = omega arith in ap (λ (i : ℕ). value (leaf (texts L i))) e
+use Rattle.whole_run.proofs.HonestState.{Item, digestOf, bodyOf, recordOf, SignedOk, ItemOk}
+use Rattle.whole_run.proofs.HonestLog.{hash-size, digest-size}
 
 -- a node of the log
 pub node-in-log : (p l : ℕ) → 1 ≤ p → p ≤ 1048576 → l ≤ lg p → inLog p l ≡ true

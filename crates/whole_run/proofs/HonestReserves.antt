@@ -30,13 +30,15 @@ use Rattle.server.proofs.Theorems.{store-changes-only-by-puts}
 use Rattle.user.specs.Asking.{asks}
 use Rattle.whole_run.specs.Honest.{Setup, InRange, publicTo, settingsIn, Server, answerBytes, serverLeft}
 use Rattle.whole_run.proofs.HonestState.{Item, digestOf, recordOf, has, reached, ownerOf, ServerOk, ItemOk}
+use Rattle.whole_run.proofs.HonestLog.{digest-size}
 use Rattle.whole_run.proofs.HonestHeads.{owner-label, above-own, taken, passed, label-is, label-le, position-le, position-gt}
+use Rattle.whole_run.proofs.HonestKeys.{user-count}
 use Rattle.whole_run.proofs.HonestServed.{server-is, head-in-log, Asked, asked-fields, early-asked, left, held, kindCode, answered-with, left-head, ready-left}
-use Rattle.whole_run.proofs.HonestRecords.{digest-size, node-in-log}
+use Rattle.whole_run.proofs.HonestRecords.{node-in-log}
 use Rattle.whole_run.proofs.HonestCounts.{has-step, reached-low, reached-high, reached-le, number-low}
 
 -- a Reserve stores nothing
-pub has-reserve : (w g kind p l : ℕ) → g ≤ lg (suc w) → has w (suc g) kind p l ≡ has w g kind p l
+has-reserve : (w g kind p l : ℕ) → g ≤ lg (suc w) → has w (suc g) kind p l ≡ has w g kind p l
 has-reserve w g kind p l a =
     has-step w g kind p l (λ e n. let h = number-low kind p l in let i : lg p ≡ lg (suc w) = ap lg e in omega arith)
 
@@ -46,7 +48,7 @@ module _ (c : Setup) (range : InRange c) (L : ℕ → Item) (w g s : ℕ) (one :
   some-servers = let t = range .two in omega arith
 
   -- the head is at the open write's position at most
-  pub head-top : x .head .position ≤ suc w
+  head-top : x .head .position ≤ suc w
   head-top =
       let a = ok .head .low in
       let b = reached-le w g in
@@ -101,7 +103,7 @@ module _ (c : Setup) (range : InRange c) (L : ℕ → Item) (w g s : ℕ) (one :
       }
 
   -- the Reserve of level j
-  module _ (counted : userCount (publicTo c (c .count)) ≡ c .count) (within : w < 1048576) (item : ItemOk c L w) (j : ℕ) (level : j ≤ lg (suc w))
+  module _ (within : w < 1048576) (item : ItemOk c L w) (j : ℕ) (level : j ≤ lg (suc w))
       (own : owner (c .servers) (suc w) j ≡ s) where
     abbrev author : ℕ
     author = L w .author
@@ -109,6 +111,7 @@ module _ (c : Setup) (range : InRange c) (L : ℕ → Item) (w g s : ℕ) (one :
     abbrev reserved : List ℕ
     reserved = digestOf L (suc w)
 
+    -- the bytes of the Reserve
     abbrev pub reserve : List ℕ
     reserve = asks (settingsIn c author) (record { kind = 5; server = s; position = suc w; level = j }) reserved
 
@@ -123,7 +126,7 @@ module _ (c : Setup) (range : InRange c) (L : ℕ → Item) (w g s : ℕ) (one :
     early : Early (settingsIn c s) reserve
     unfolding nodeFits levelFits bodyFits
     early =
-        early-asked c counted author 5 (suc w) j s reserved reserve fields (item .one) (item .listed)
+        early-asked c (user-count c range) author 5 (suc w) j s reserved reserve fields (item .one) (item .listed)
         (rw (node-in-log (suc w) j (omega arith) (omega arith) level)) (rw (digest-size L (suc w))) (λ _. own)
 
     -- check 4 passes

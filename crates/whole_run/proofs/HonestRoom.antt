@@ -16,7 +16,8 @@ use Rattle.user.specs.Write.{commitNumber, writeKind, writeLevel}
 use Rattle.whole_run.specs.Honest.{Setup, Server}
 use Rattle.whole_run.specs.HonestClaim.{bodySize, storedTo}
 use Rattle.whole_run.proofs.HonestState.{Item, digestOf, bodyOf, numberOf, RoomLeft, SignedOk, bodyAt}
-use Rattle.whole_run.proofs.HonestRecords.{hash-size, digest-size, node-in-log, full-within}
+use Rattle.whole_run.proofs.HonestLog.{hash-size, digest-size}
+use Rattle.whole_run.proofs.HonestRecords.{node-in-log, full-within}
 
 -- Request j of the open write, where it is a put or the Commit.
 pub record PutAt (c : Setup) (L : ℕ → Item) (w j : ℕ) : Type 0 where

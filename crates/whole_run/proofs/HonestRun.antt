@@ -1,21 +1,19 @@
 -- The honest run: from its calls' starts, steps and late requests to every list of calls.
 use mathlib.Core.Path.{_≡_, refl, ap, sym, _∙_, subst}
-use mathlib.Core.Bool.{Bool, true, false, cond}
+use mathlib.Core.Bool.{false, cond}
 use mathlib.Core.List.{List, [], _∷_, _++_, append-nil}
-use Prim.Native.Nat.{ℕ, zero, suc, _+_, _-_, _≤_, _<_}
+use Prim.Native.Nat.{ℕ, zero, suc, _-_, _<_}
 use native.Mathlib.Omega.{arith}
 use lib.Dec.{eqb}
-use lib.ListN.{length}
 use borrow.Author.Tests.{eq-eqb, ne-eqb}
-use Rattle.tree.proofs.Cases.{cases-le, cases-eq}
 use Rattle.sha256.proofs.Cases.{by-bool}
+use Rattle.tree.proofs.Cases.{cases-le, cases-eq}
 use Rattle.user.specs.declared.call.Step.{Step}
 use Rattle.whole_run.specs.World.{Input, startUpdate, startWrite, startRead, answer, returned}
-use Rattle.whole_run.specs.Honest.{Setup, InRange, settingsIn, Network, set, arrives, steps, comesBack, after, handed, stepOf, Act, calls, Written, Run, wrote, doAct, runOf}
-use Rattle.whole_run.specs.HonestClaim.{ValidCall, countOf, Valid, AllValid, NotRefused, Serves, HonestRun}
-use Rattle.whole_run.proofs.HonestState.{Item, Good}
+use Rattle.whole_run.specs.Honest.{Setup, Network, arrives, after, handed, Act, calls, Written, Run, wrote, doAct, runOf}
+use Rattle.whole_run.specs.HonestClaim.{ValidCall, countOf, Valid, AllValid, NotRefused, Serves}
+use Rattle.whole_run.proofs.HonestState.{Good}
 use Rattle.whole_run.proofs.HonestCalls.{Holds, begunBy, Between, OnWay, Over, Started, Stepped, Late}
-use Rattle.whole_run.proofs.HonestExchanges.{exchanged, handedBy}
 
 -- nothing is written by a step that does not end its call
 wrote-nothing : (a : ℕ) (i : Input) (z : Step) → z .ended ≡ false → wrote a i z ≡ []
@@ -100,7 +98,13 @@ module _ (c : Setup)
       ap (λ (y : List Written). r .log ++ y) (wrote-nothing a i (handed c (r .network) a i k) t) ∙ append-nil (r .log)
       in
       by-bool
-      (λ t. Between c (record { network = cond t (arrives c (after c (r .network) a i k) a) (after c (r .network) a i k); log = r .log ++ wrote a i (handed c (r .network) a i k); begun = begunBy r a i }))
+      (λ t.
+      Between c
+      (record {
+        network = cond t (arrives c (after c (r .network) a i k) a) (after c (r .network) a i k);
+        log = r .log ++ wrote a i (handed c (r .network) a i k);
+        begun = begunBy r a i;
+      }))
       b
       (λ _. record { log = o .log; w = o .w; g = l .g; good = l .good; holds = subst (Holds (o .log) (o .w)) (sym e) (o .holds) })
       (λ _. record { log = o .log; w = o .w; g = o .g; good = o .good; holds = subst (Holds (o .log) (o .w)) (sym e) (o .holds) }))
@@ -111,6 +115,7 @@ module _ (c : Setup)
     all-between [] v = first
     all-between (x ∷ xs) v = acts (runOf c stores xs) x (all-between xs (v .1)) (v .0)
 
+    -- every valid call after every list of valid calls
     pub every-call : (xs : List Act) → AllValid c stores xs → (a : ℕ) (i : Input) → ValidCall c (runOf c stores xs) a i
         → NotRefused c (runOf c stores xs) a i
         × Serves (runOf c stores xs) a (after c (runOf c stores xs .network) a i (countOf c (runOf c stores xs) a i) .users a) i

@@ -40,12 +40,12 @@ head-in-log count h e = (
 -- The fields of a request, and its length.
 pub record Asked (c : Setup) (a kind p l : ℕ) (body q : List ℕ) : Type 0 where
   pub kind-is : requestKind q ≡ kind
-  pub log-is : requestLog q ≡ c .log
+  log-is : requestLog q ≡ c .log
   pub author-is : requestAuthor q ≡ a
   pub position-is : requestPosition q ≡ p
   pub level-is : requestLevel q ≡ l
   pub body-is : requestBody q ≡ body
-  pub mark-is : begins requestMark q ≡ true
+  mark-is : begins requestMark q ≡ true
   pub long : length q ≡ 26 + length body
 
 -- what a user asks for is read as it was meant
@@ -118,7 +118,7 @@ module _ (c : Setup) (s : ℕ) (x : Server) (q : List ℕ) where
 
   module _ (ready : Ready (settingsIn c s) (x .head) (x .store) (x .used)) where
     -- 22 and 21 pass
-    pub setup-zero : firstCode (setupChecks (settingsIn c s) (x .head) (x .store) (x .used) (replicate 2552 0)) ≡ 0
+    setup-zero : firstCode (setupChecks (settingsIn c s) (x .head) (x .store) (x .used) (replicate 2552 0)) ≡ 0
     setup-zero =
         setup-ready (settingsIn c s) (x .head) (x .store) (x .used) (replicate 2552 0) ready
         ∙ ap (λ (b : Bool). cond b 0 21) (le-leb 2552 (length (replicate {A = ℕ} 2552 0)) (omega (arith, length-replicate {A = ℕ} 2552 0)))

@@ -26,7 +26,7 @@ stored-position : (kind p l : ℕ) → 6 ≤ kind → nodeFits kind p l ≡ true
 stored-position kind p l k f = in-log p l (names-node kind p l (λ e. omega arith) f .0) .0
 
 -- Logs with the same records, as far as they are stored, and the same head.
-pub server-as : (c : Setup) (L M : ℕ → Item) (w g s : ℕ) (x : Server)
+server-as : (c : Setup) (L M : ℕ → Item) (w g s : ℕ) (x : Server)
     → ((kind p l : ℕ) → 6 ≤ kind → nodeFits kind p l ≡ true → has w g kind p l ≡ true → recordOf L kind p l ≡ recordOf M kind p l)
     → (x .head .position ≡ suc w → (L w .author ≡ M w .author) × (digestOf L (suc w) ≡ digestOf M (suc w)))
     → ServerOk c L w g s x → ServerOk c M w g s x
@@ -57,7 +57,7 @@ record-same L M kind p l k f same signed =
     ap₂ (λ (n : ℕ) (r : List ℕ). stored kind p l n r) a body
 
 -- A head's position where no request of the open write has arrived.
-pub head-position : (c : Setup) (L : ℕ → Item) (w s : ℕ) (x : Server) → ServerOk c L w 0 s x → x .head .position ≤ w
+head-position : (c : Setup) (L : ℕ → Item) (w s : ℕ) (x : Server) → ServerOk c L w 0 s x → x .head .position ≤ w
 head-position c L w s x ok =
     let a = ok .head .low in
     let e = reached-zero w in
@@ -111,11 +111,10 @@ server-commits c L w s x ok =
     }
 
 -- At first: head (0, 0), and nothing stored.
-pub server-at-first : (c : Setup) (L : ℕ → Item) (s : ℕ) (store : List ℕ) → 1 ≤ s → s ≤ c .servers
-    → settingsFit (c .servers) s (publicTo c (c .count)) ≡ true
+pub server-at-first : (c : Setup) (L : ℕ → Item) (s : ℕ) (store : List ℕ) → 1 ≤ s → settingsFit (c .servers) s (publicTo c (c .count)) ≡ true
     → ServerOk c L 0 0 s (record { head = record { position = 0; level = 0; author = 0; digest = replicate 32 0 }; store = store; used = 0 })
 unfolding headFits whole records recordsIn sizes first
-server-at-first c L s store low high fits =
+server-at-first c L s store low fits =
     record {
       ready = record { settings = fits; head = refl; within = omega arith; records = refl };
       head = rw (reached-zero 0, nodes-zero, label-zero 0) (at-first (c .servers) s low);

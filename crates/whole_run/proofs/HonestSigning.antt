@@ -18,10 +18,10 @@ use Rattle.tree.proofs.Cases.{cases-eq, not-both}
 use Rattle.user.specs.declared.call.Kept.{Kept}
 use Rattle.user.specs.Write.{commitSignature}
 use Rattle.whole_run.specs.Honest.{Setup, InRange, keyOf, publicOf, publicTo, set}
-use Rattle.whole_run.proofs.HonestState.{Item, texts, digestOf, SignedOk, OpenOk}
+use Rattle.whole_run.proofs.HonestState.{Item, texts, digestOf, SignedOk, OpenOk, validAt}
 use Rattle.whole_run.proofs.HonestLog.{same-hash, same-digest}
+use Rattle.whole_run.proofs.HonestFrames.{set-same, set-other}
 use Rattle.whole_run.proofs.HonestKeys.{own-key, tree-size}
-use Rattle.whole_run.proofs.HonestOpening.{item-there, item-elsewhere}
 use Rattle.whole_run.proofs.HonestBodies.{path-digest}
 use Rattle.whole_run.proofs.HonestWrites.{signedKept}
 
@@ -31,14 +31,15 @@ signedItem x sig = record { author = x .author; entry = x .entry; signature = si
 
 -- a log in which place w has this signature has the same texts, and so the same hashes
 module _ (L : ℕ → Item) (w : ℕ) (sig : List ℕ) where
+  -- the log with this signature at place w
   abbrev pub signedLog : ℕ → Item
   signedLog = set L w (signedItem (L w) sig)
 
-  pub same-texts : (i : ℕ) → texts L i ≡ texts signedLog i
-  same-texts i =
+  signed-texts : (i : ℕ) → texts L i ≡ texts signedLog i
+  signed-texts i =
       let text : Item → List ℕ = λ x. entryText (x .author) (x .entry) in
-      cases-eq i w (λ e. rw e (sym (ap text (item-there L w (signedItem (L w) sig)))))
-      (λ n. sym (ap text (item-elsewhere L w (signedItem (L w) sig) i n)))
+      cases-eq i w (λ e. rw e (sym (ap text (set-same L w (signedItem (L w) sig)))))
+      (λ n. sym (ap text (set-other L w (signedItem (L w) sig) i n)))
 
 -- the signature that user a makes with its own key and this number
 module _ (c : Setup) (r : InRange c) (a number : ℕ) (randomizer text : List ℕ) (spare : number < 1024) (random : length randomizer ≡ 32) where
@@ -63,10 +64,10 @@ module _ (c : Setup) (r : InRange c) (a number : ℕ) (randomizer text : List �
 -- the open write of user a, not signed yet, signs
 module _ (c : Setup) (r : InRange c) (L : ℕ → Item) (w g a : ℕ) (begun : List ℕ) (k : Kept) (path before : List ℕ)
     (ok : OpenOk c L w g a begun k path before) (unsigned : k .signed ≡ false) (randomizer : List ℕ) (random : length randomizer ≡ 32) where
-  abbrev pub sig : List ℕ
+  abbrev sig : List ℕ
   sig = commitSignature (c .log) (suc w) (keyOf c a) (k .number) randomizer path
 
-  abbrev pub M : ℕ → Item
+  abbrev M : ℕ → Item
   M = signedLog L w sig
 
   abbrev text : List ℕ
@@ -80,32 +81,31 @@ module _ (c : Setup) (r : InRange c) (L : ℕ → Item) (w g a : ℕ) (begun : L
   sig-is = rw (path-digest L w path (ok .path-ok))
 
   there : M w ≡ signedItem (L w) sig
-  there = item-there L w (signedItem (L w) sig)
+  there = set-same L w (signedItem (L w) sig)
 
   own : userKey (publicTo c (c .count)) (L w .author) ≡ publicOf c a
   own =
       ap (userKey (publicTo c (c .count))) (ok .author)
       ∙ own-key c r a (rw (ok .author) at (ok .item .one)) (rw (ok .author) at (ok .item .listed))
 
-  pub signature-size : length sig ≡ 2508
+  signature-size : length sig ≡ 2508
   signature-size = ap length sig-is ∙ made-size c r a (k .number) randomizer text spare random
 
   -- place w then has a signature that its author's key accepts
-  pub signature-ok : SignedOk c M w
+  signature-ok : SignedOk c M w
   signature-ok =
-      let keys : List ℕ = publicTo c (c .count) in
       record {
         size = ap (λ (x : Item). length (x .signature)) there ∙ signature-size;
         valid =
-            ap (λ (x : Item). isValid (checkOf LMOTS_SHA256_N32_W4 LMS_SHA256_M32_H10 (userKey keys (x .author)) (signedText (c .log) (suc w) (digestOf M (suc w))) (x .signature))) there
-            ∙ ap (λ (d : List ℕ). isValid (checkOf LMOTS_SHA256_N32_W4 LMS_SHA256_M32_H10 (userKey keys (L w .author)) (signedText (c .log) (suc w) d) sig))
-            (sym (same-digest L M (suc w) (omega arith) (λ i _. same-texts L w sig i)))
+            ap (λ (x : Item). validAt c w x (digestOf M (suc w))) there
+            ∙ ap (validAt c w (signedItem (L w) sig))
+            (sym (same-digest L M (suc w) (omega arith) (λ i _. signed-texts L w sig i)))
             ∙ ap₂ (λ (x y : List ℕ). isValid (checkOf LMOTS_SHA256_N32_W4 LMS_SHA256_M32_H10 x text y)) own sig-is
             ∙ made-valid c r a (k .number) randomizer text spare random;
       }
 
   -- and the write is open as before, with it
-  pub signed-open : OpenOk c M w g a begun (signedKept k) path sig
+  signed-open : OpenOk c M w g a begun (signedKept k) path sig
   signed-open =
       record {
         version = ok .version;
@@ -118,7 +118,11 @@ module _ (c : Setup) (r : InRange c) (L : ℕ → Item) (w g a : ℕ) (begun : L
         };
         author = ap (λ (x : Item). x .author) there ∙ ok .author;
         entry = ap (λ (x : Item). x .entry) there ∙ ok .entry;
-        path-ok = λ l h. ok .path-ok l h ∙ same-hash L M (suc w) l (omega arith) (λ i _. same-texts L w sig i);
+        path-ok = λ l h. ok .path-ok l h ∙ same-hash L M (suc w) l (omega arith) (λ i _. signed-texts L w sig i);
         signed = λ _. (ap (λ (x : Item). x .signature) there, signature-ok);
         unsigned = λ e. not-both true refl e;
       }
+
+  -- the signature has its size, and the write is open with it
+  pub signs-open : (length sig ≡ 2508) × OpenOk c M w g a begun (signedKept k) path sig
+  signs-open = (signature-size, signed-open)

@@ -1,52 +1,39 @@
 -- A valid call of an honest run starts: it is not refused, and is on its way with its count of answers to come.
-use mathlib.Core.Path.{_≡_, refl, ap, ap₂, sym, _∙_, subst}
-use mathlib.Core.Bool.{Bool, true, false, cond, not, _&&_}
+use mathlib.Core.Path.{_≡_, refl, ap, sym, _∙_, subst}
+use mathlib.Core.Bool.{true, false}
 use mathlib.Core.List.{List, []}
-use Prim.Native.Nat.{ℕ, zero, suc, _+_, _≤_, _<_}
+use Prim.Native.Nat.{ℕ, _≤_}
 use native.Mathlib.Omega.{arith}
 use native.Mathlib.Nat.{zero-add}
-use lib.Dec.{eqb, leb}
-use lib.ListN.{length}
-use borrow.Author.Tests.{le-leb, lt-leb}
 use Rattle.sha256.proofs.Cases.{by-bool}
-use Rattle.tree.specs.Setup.{firstCode}
-use Rattle.tree.specs.Bytes.{written}
-use Rattle.tree.proofs.ByteLaws.{written-length}
-use Rattle.user.specs.declared.call.Kept.{Kept}
-use Rattle.user.specs.declared.call.Update.{Update}
-use Rattle.user.specs.Asking.{settingsFit, keptFits, setupChecks, requestRoom, asks, asking}
-use Rattle.user.specs.Update.{UpdateLeft, freshUpdate, updateSetup, updateGoes, updateStarted, updateWant}
-use Rattle.user.proofs.UpdateRules.{askingLeft, by-goes}
 use Rattle.tree.proofs.Cases.{not-both}
-use Rattle.whole_run.specs.World.{User, Lent, updating, Input, startUpdate, startWrite, startRead, answer, Outcome, sentBy, afterUpdate, userStep}
-use Rattle.whole_run.specs.Honest.{Setup, InRange, settingsIn, Server, Network, set, steps, stepOf, Run, begins}
+use Rattle.user.specs.declared.call.Kept.{Kept}
+use Rattle.user.specs.Asking.{keptFits, asking}
+use Rattle.user.specs.Update.{UpdateLeft, freshUpdate, updateGoes, updateStarted, updateWant}
+use Rattle.user.proofs.UpdateRules.{askingLeft, by-goes}
+use Rattle.whole_run.specs.World.{User, Lent, Input, startUpdate, afterUpdate, userStep}
+use Rattle.whole_run.specs.Honest.{Setup, InRange, settingsIn, Network, steps, stepOf, Run, begins}
 use Rattle.whole_run.specs.HonestClaim.{Alone, ValidMemory, ValidInput, ValidCall, updateAnswers, answersOf, countOf}
 use Rattle.whole_run.proofs.HonestState.{Item, Good}
-use Rattle.whole_run.proofs.HonestFrames.{set-same, sentFor, sent-for}
-use Rattle.whole_run.proofs.HonestKeys.{user-count, user-settings}
+use Rattle.whole_run.proofs.HonestFrames.{set-same, sent-for, request-room}
+use Rattle.whole_run.proofs.HonestKeys.{user-count, user-settings, kept-fits-shut, kept-fits-open}
 use Rattle.whole_run.proofs.HonestAnswers.{Fit}
 use Rattle.whole_run.proofs.HonestUpdates.{fresh-update, fresh-waits}
 use Rattle.whole_run.proofs.HonestUpdateSteps.{update-starts}
-use Rattle.whole_run.proofs.HonestMoves.{withUser, still-alone, good-next, none-open, leaves-same}
-use Rattle.whole_run.proofs.HonestCalls.{Updates, UpdateCall, CallOk, Holds, begunBy, Between, OnWay, Started}
+use Rattle.whole_run.proofs.HonestMoves.{withUser, none-open, leaves-same}
+use Rattle.whole_run.proofs.HonestCalls.{Updates, UpdateCall, CallOk, begunBy, Between, OnWay, Started}
+use Rattle.whole_run.proofs.HonestSteps.{on-way-from}
 
 -- what a user keeps is in range
 kept-fits : (c : Setup) (L : ℕ → Item) (w g a : ℕ) (b : ℕ → List ℕ) (x : Network) → Good c L w g b x → keptFits (x .users a .kept) ≡ true
-unfolding keptFits
 kept-fits c L w g a b x good =
     let u = good .users-ok a in
     let k = x .users a .kept in
-    let v : k .version ≤ 1048576 = omega (arith, u .low, good .within) in
-    let o : not (k .opened && leb 1048576 (k .version)) ≡ true =
-    by-bool (λ t. k .opened ≡ t → not (t && leb 1048576 (k .version)) ≡ true) (k .opened)
-    (λ _ e.
-    let ok = u .open-ok e in
-    let low : k .version < 1048576 = omega (arith, ok .version, ok .within) in
-    rw (lt-leb 1048576 (k .version) low))
-    (λ _ e. refl) refl
-    in
-    rw (le-leb (k .version) 1048576 v, le-leb (k .number) 1024 (u .number), o)
+    by-bool (λ t. k .opened ≡ t → keptFits k ≡ true) (k .opened)
+    (λ _ e. let ok = u .open-ok e in kept-fits-open k (omega (arith, ok .version, ok .within)) (u .number))
+    (λ _ e. kept-fits-shut k e (omega (arith, u .low, good .within)) (u .number)) refl
 
+-- the user's settings, and what it keeps, are those of a user in this log
 pub fit-user : (c : Setup) → InRange c → (L : ℕ → Item) (w g a : ℕ) (b : ℕ → List ℕ) (x : Network) → 1 ≤ a → a ≤ c .count → Good c L w g b x
     → Fit c L w a (x .users a .kept)
 fit-user c range L w g a b x one last good =
@@ -68,22 +55,13 @@ module _ (c : Setup) (r : Run) (a : ℕ) (i : Input) (between : Between c r) (al
   abbrev x : Network
   x = r .network
 
+  -- the call is on its way
   pub start-on-way : (left : ℕ) → CallOk c (between .log) (between .w) (between .g) a left u (x .servers) i → OnWay c r a i left (withUser x a u (x .servers))
   start-on-way left call =
-      record {
-        log = between .log;
-        w = between .w;
-        g = between .g;
-        good =
-            good-next c (between .log) (between .log) (between .w) (between .w) (between .g) (between .g) a (r .begun) (begunBy r a i) x (between .good) alone
-            (omega arith) (λ j h. refl) u (x .servers)
-            (leaves-same c (between .log) (between .w) (between .g) a (r .begun) x (between .good) alone u (x .servers) (begunBy r a i a) kept-same path-same
-            signature-same (λ o. set-same (r .begun) a (begins i (r .begun a)) ∙ entry-same o) (λ s one. refl));
-        holds = between .holds;
-        alone = still-alone x a u (x .servers) alone;
-        reads = ap (λ (z : User). z .reads) (set-same (x .users) a u) ∙ reads-same;
-        call = subst (λ (z : User). CallOk c (between .log) (between .w) (between .g) a left z (x .servers) i) (sym (set-same (x .users) a u)) call;
-      }
+      on-way-from c r a i (between .log) (between .log) (between .w) (between .g) (between .g) left (r .begun) x u (x .servers) (between .good) alone
+      (between .holds) refl (λ j h. refl)
+      (leaves-same c (between .log) (between .w) (between .g) a (r .begun) x (between .good) alone u (x .servers) (begunBy r a i a) kept-same path-same
+      signature-same (λ o. set-same (r .begun) a (begins i (r .begun a)) ∙ entry-same o) (λ s one. refl)) reads-same call
 
 -- the first Status goes out
 pub first-status : (c : Setup) → InRange c → (a : ℕ) (k : Kept) (hashes buffer : List ℕ)
@@ -128,7 +106,7 @@ module _ (c : Setup) (range : InRange c) (r : Run) (a : ℕ) (m : Lent) (between
 
   memory : ValidMemory (begun-user .lent)
   unfolding afterUpdate
-  memory = record { hashes = input .0 .hashes; held = input .0 .held; request = omega (arith, input .0 .request, written-length (m .request) 0 (asks (settingsIn c a) (updateWant (c .servers) (user .kept .version) freshUpdate) [])) }
+  memory = record { hashes = input .0 .hashes; held = input .0 .held; request = request-room (m .request) _ (input .0 .request) }
 
   call : UpdateCall c (between .log) (between .w) (between .g) a (countOf c r a (startUpdate m)) begun-user
   unfolding afterUpdate answersOf freshUpdate asking
@@ -141,6 +119,7 @@ module _ (c : Setup) (range : InRange c) (r : Run) (a : ℕ) (m : Lent) (between
         count = zero-add _ ∙ ap (updateAnswers (c .servers) (user .kept .version)) (sym (between .holds .count));
       }
 
+  -- a valid Update starts
   pub update-start : Started c r a (startUpdate m) (countOf c r a (startUpdate m))
   unfolding steps stepOf userStep CallOk begins answersOf updateAnswers asking afterUpdate
   update-start =
@@ -149,6 +128,9 @@ module _ (c : Setup) (range : InRange c) (r : Run) (a : ℕ) (m : Lent) (between
         code = ap (λ (l : UpdateLeft). l .step .code) starts;
         ended = ap (λ (l : UpdateLeft). l .step .ended) starts;
         on-way =
-            subst (λ (l : UpdateLeft). OnWay c r a (startUpdate m) (countOf c r a (startUpdate m)) (withUser (r .network) a (afterUpdate user m l) (r .network .servers))) (sym starts)
+            subst
+            (λ (l : UpdateLeft).
+            OnWay c r a (startUpdate m) (countOf c r a (startUpdate m)) (withUser (r .network) a (afterUpdate user m l) (r .network .servers)))
+            (sym starts)
             (start-on-way c r a (startUpdate m) between (valid .alone) begun-user refl refl refl refl (λ _. refl) (countOf c r a (startUpdate m)) call);
       }

@@ -38,21 +38,24 @@ pub record Item : Type 0 where
   pub entry : List ℕ
   pub signature : List ℕ
 
+-- the text that the leaf of place i holds
 abbrev pub texts : (ℕ → Item) → ℕ → List ℕ
 texts L i = entryText (L i .author) (L i .entry)
 
--- the hash of a node, and the digest of p entries
+-- the hash of a node
 abbrev pub hashOf : (ℕ → Item) → ℕ → ℕ → List ℕ
 hashOf L p l = value (node (leaves (texts L)) p l)
 
+-- the digest of p entries
 abbrev pub digestOf : (ℕ → Item) → ℕ → List ℕ
 digestOf L p = digest (texts L) p
 
--- the body of the record of a kind (6 entry, 7 node, 8 Commit) for a node, and the record
+-- the body of the record of a kind (6 entry, 7 node, 8 Commit) for a node
 abbrev pub bodyOf : (ℕ → Item) → ℕ → ℕ → ℕ → List ℕ
 bodyOf L kind p l =
     cond (eqb kind 6) (L (p - 1) .entry) (cond (eqb kind 7) (hashOf L p l) (digestOf L p ++ L (p - 1) .signature))
 
+-- the record of a kind for a node
 abbrev pub recordOf : (ℕ → Item) → ℕ → ℕ → ℕ → List ℕ
 recordOf L kind p l = stored kind p l (L (p - 1) .author) (bodyOf L kind p l)
 
@@ -93,11 +96,15 @@ RoomLeft c L w g s x =
     x .used + storedBy (c .servers) (suc w) (length (L w .entry)) s
     ≤ length (x .store) + storedTo (c .servers) (suc w) (length (L w .entry)) s g
 
+-- whether the author's key accepts the signature of item x at place i, over digest d
+abbrev pub validAt : Setup → ℕ → Item → List ℕ → Bool
+validAt c i x d =
+    isValid (checkOf LMOTS_SHA256_N32_W4 LMS_SHA256_M32_H10 (userKey (publicTo c (c .count)) (x .author)) (signedText (c .log) (suc i) d) (x .signature))
+
 -- a signature of place i that its author's key accepts
 pub record SignedOk (c : Setup) (L : ℕ → Item) (i : ℕ) : Type 0 where
   pub size : length (L i .signature) ≡ 2508
-  pub valid : isValid (checkOf LMOTS_SHA256_N32_W4 LMS_SHA256_M32_H10 (userKey (publicTo c (c .count)) (L i .author))
-      (signedText (c .log) (suc i) (digestOf L (suc i))) (L i .signature)) ≡ true
+  pub valid : validAt c i (L i) (digestOf L (suc i)) ≡ true
 
 -- what was written at place i
 pub record ItemOk (c : Setup) (L : ℕ → Item) (i : ℕ) : Type 0 where
@@ -136,8 +143,7 @@ pub record Good (c : Setup) (L : ℕ → Item) (w g : ℕ) (begun : ℕ → List
   pub items : (i : ℕ) → i < w → ItemOk c L i × SignedOk c L i
   pub within : w ≤ 1048576
 
--- The body of a right answer to what a user asks for: a head of that server, the hash of a node, an entry with its author, or a Commit's
--- author, digest and signature.
+-- The body of an answer to a Status: a head of that server.
 pub record ToldOk (c : Setup) (w g s : ℕ) (body : List ℕ) : Type 0 where
   pub position : ℕ
   pub level : ℕ
@@ -146,6 +152,8 @@ pub record ToldOk (c : Setup) (w g s : ℕ) (body : List ℕ) : Type 0 where
   pub none : position ≡ 0 → level ≡ 0
   pub some : 0 < position → inLog position level ≡ true
 
+-- The body of a right answer to what a user asks for: a head of that server, the hash of a node, an entry with its author, or a Commit's
+-- author, digest and signature.
 unfoldable pub RightBody : Setup → (ℕ → Item) → ℕ → ℕ → Want → List ℕ → Type 0
 RightBody c L w g want body =
     (want .kind ≡ 1 → ToldOk c w g (want .server) body)
@@ -202,12 +210,13 @@ bodyAt L w j =
     (cond (eqb j (lg (suc w) + 1)) (L w .entry)
     (cond (ltb j (commitNumber (suc w))) (hashOf L (suc w) (writeLevel (suc w) j)) (digestOf L (suc w) ++ L w .signature)))
 
--- what the owner makes of it, and all servers after it
+-- what the owner makes of it
 abbrev pub putting : Setup → (ℕ → Item) → ℕ → ℕ → (ℕ → Server) → Left
 putting c L w j x =
     let want = writeWant (c .servers) (suc w) j in
     serving c (L w .author) (want .server) (x (want .server)) want (bodyAt L w j)
 
+-- all servers after it
 abbrev pub serversAfter : Setup → (ℕ → Item) → ℕ → ℕ → (ℕ → Server) → ℕ → Server
 serversAfter c L w j x = set x (writeWant (c .servers) (suc w) j .server) (serverLeft (putting c L w j x))
 

@@ -2,7 +2,7 @@
 use mathlib.Core.Path.{_≡_, ap, _∙_}
 use mathlib.Core.Bool.{true, cond}
 use mathlib.Core.List.{List, []}
-use Prim.Native.Nat.{ℕ, suc, _+_, _-_, _≤_, _<_, min, max}
+use Prim.Native.Nat.{ℕ, suc, _+_, _≤_, _<_, min, max}
 use native.Mathlib.Omega.{arith}
 use lib.Dec.{eqb, leb, ltb}
 use lib.ListN.{getD}
@@ -19,13 +19,9 @@ use Rattle.tree.proofs.Messages.{be-one}
 use Rattle.user.specs.declared.call.Update.{Update}
 use Rattle.user.specs.Update.{toldPosition, toldLevel, toldLabel, headHolds, statusTaken}
 use Rattle.whole_run.specs.Honest.{Setup}
-use Rattle.whole_run.proofs.HonestState.{Item, reached, ownerOf, HeadAt, ToldOk, UpdateOk}
+use Rattle.whole_run.proofs.HonestState.{Item, ownerOf, HeadAt, ToldOk, UpdateOk}
 use Rattle.whole_run.proofs.HonestHeads.{owner-label, own-range, top, label-zero, label-above-zero, position-le, position-is}
-
--- no label is reserved beyond those of the committed positions
-pub reached-none : (w : ℕ) → reached w 0 ≡ nodesTo w
-unfolding reached
-reached-none w = omega arith
+use Rattle.whole_run.proofs.HonestCounts.{reached-zero}
 
 -- what holds of a head that an honest server tells
 pub record HeadTold (n w s p l : ℕ) : Type 0 where
@@ -42,7 +38,7 @@ in-log-level p l e = leb-true l (lg p) (and-true (leb p 1048576) _ (and-true (le
 module _ (c : Setup) (w s : ℕ) (body : List ℕ) (within : w ≤ 1048576) (t : ToldOk c w 0 s body) where
   -- the head, where no label of a next position is reserved
   head-at : HeadAt (c .servers) s (nodesTo w) (label (t .position) (t .level))
-  head-at = rw (reached-none w) at (t .head)
+  head-at = rw (reached-zero w) at (t .head)
 
   -- the level is one of the position's path
   level-low : t .level ≤ lg (t .position)

@@ -15,7 +15,7 @@ use Rattle.lms.specs.Check.{checkOf, isValid}
 use Rattle.tree.specs.Level.{lg}
 use Rattle.tree.specs.Label.{label, owner}
 use Rattle.tree.specs.Message.{requestKind, requestBody, stored, recordKind, recordPosition, recordLevel, signedText, answer}
-use Rattle.tree.specs.Setup.{userCount, userKey, firstCode}
+use Rattle.tree.specs.Setup.{userKey, firstCode}
 use Rattle.tree.proofs.Cases.{by-bool, and-true}
 use Rattle.tree.proofs.Levels.{lg-below}
 use Rattle.server.specs.declared.Head.{Head}
@@ -31,8 +31,10 @@ use Rattle.server.proofs.After.{recordsOf, first-after-put}
 use Rattle.user.specs.Asking.{asks}
 use Rattle.whole_run.specs.Honest.{Setup, InRange, publicTo, settingsIn, Server, answerBytes, serverLeft}
 use Rattle.whole_run.proofs.HonestState.{Item, digestOf, bodyOf, recordOf, numberOf, has, reached, HeadAt, ServerOk, SignedOk, ItemOk}
+use Rattle.whole_run.proofs.HonestLog.{digest-size}
+use Rattle.whole_run.proofs.HonestKeys.{user-count}
 use Rattle.whole_run.proofs.HonestServed.{server-is, Asked, asked-fields, early-asked, left, held, kindCode, accepted, answered-with, left-head, left-store, left-used, ready-left}
-use Rattle.whole_run.proofs.HonestRecords.{digest-size, by-stored-kind, body-fits, Held, record-fields}
+use Rattle.whole_run.proofs.HonestRecords.{by-stored-kind, body-fits, Held, record-fields}
 use Rattle.whole_run.proofs.HonestCounts.{has-now, has-not, has-step, reached-high, number-low, number-one}
 use Rattle.whole_run.proofs.HonestReserves.{head-here}
 
@@ -58,7 +60,7 @@ put-elsewhere c L w g s x ok kind l k f number other =
     }
 
 module _ (c : Setup) (range : InRange c) (L : ℕ → Item) (w g s : ℕ) (one : 1 ≤ s) (last : s ≤ c .servers) (x : Server) (ok : ServerOk c L w g s x)
-    (counted : userCount (publicTo c (c .count)) ≡ c .count) (within : w < 1048576) (item : ItemOk c L w)
+    (within : w < 1048576) (item : ItemOk c L w)
     (kind l : ℕ) (put : 6 ≤ kind) (node : nodeFits kind (suc w) l ≡ true) (own : owner (c .servers) (suc w) l ≡ s)
     (signed : kind ≡ 8 → SignedOk c L w) (come : numberOf kind (suc w) l ≤ g) where
   abbrev author : ℕ
@@ -110,7 +112,7 @@ module _ (c : Setup) (range : InRange c) (L : ℕ → Item) (w g s : ℕ) (one :
 
   -- checks 1 to 3 pass
   early : Early (settingsIn c s) request
-  early = early-asked c counted author kind (suc w) l s body request fields (item .one) (item .listed) node size (λ _. own)
+  early = early-asked c (user-count c range) author kind (suc w) l s body request fields (item .one) (item .listed) node size (λ _. own)
 
   -- check 5 passes: the head is at this position,
   there : (x .head .position ≡ suc w) × (l ≤ x .head .level)

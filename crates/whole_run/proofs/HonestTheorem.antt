@@ -1,14 +1,14 @@
 -- The claim about every honest run.
-use mathlib.Core.Path.{_≡_, refl, ap, sym, _∙_}
-use mathlib.Core.Bool.{Bool, true, false}
+use mathlib.Core.Path.{_≡_, refl}
+use mathlib.Core.Bool.{false}
 use mathlib.Core.List.{List, []}
-use Prim.Native.Nat.{ℕ, suc, _≤_, _<_}
+use Prim.Native.Nat.{ℕ, suc}
 use native.Mathlib.Omega.{arith}
-use lib.ListN.{length, length-replicate}
+use lib.ListN.{length-replicate}
 use Rattle.sha256.proofs.Cases.{by-bool}
 use Rattle.tree.proofs.Cases.{not-both}
 use Rattle.user.specs.declared.call.Step.{Step}
-use Rattle.whole_run.specs.World.{User, Sent, Input, startUpdate, startWrite, startRead, answer}
+use Rattle.whole_run.specs.World.{Input, startUpdate, startWrite, startRead, answer}
 use Rattle.whole_run.specs.Runs.{newUser}
 use Rattle.whole_run.specs.Honest.{Setup, InRange, Network, reply, serverLeft, arrives, atFirst, Run, runOf}
 use Rattle.whole_run.specs.HonestClaim.{ValidInput, ValidCall, countOf, HonestRun}
@@ -17,13 +17,14 @@ use Rattle.whole_run.proofs.HonestFrames.{set-other}
 use Rattle.whole_run.proofs.HonestKeys.{server-settings}
 use Rattle.whole_run.proofs.HonestServers.{server-at-first}
 use Rattle.whole_run.proofs.HonestMoves.{good-servers}
-use Rattle.whole_run.proofs.HonestCalls.{Holds, begunBy, Between, OnWay, Over, Started, Stepped, Late}
+use Rattle.whole_run.proofs.HonestCalls.{begunBy, Between, OnWay, Over, Started, Stepped, Late, write-call}
 use Rattle.whole_run.proofs.HonestStarts.{update-start}
 use Rattle.whole_run.proofs.HonestWriteStarts.{write-start}
 use Rattle.whole_run.proofs.HonestReadStarts.{read-start}
 use Rattle.whole_run.proofs.HonestUpdateCalls.{update-step, update-late}
-use Rattle.whole_run.proofs.HonestWriteCalls.{now, updating-step, updating-late}
-use Rattle.whole_run.proofs.HonestOpenCalls.{open-step, open-late}
+use Rattle.whole_run.proofs.HonestWriteCalls.{updating-step, updating-late}
+use Rattle.whole_run.proofs.HonestOpenCalls.{open-late}
+use Rattle.whole_run.proofs.HonestOpenSteps.{open-step}
 use Rattle.whole_run.proofs.HonestReadCalls.{read-step, read-late}
 use Rattle.whole_run.proofs.HonestRun.{every-call}
 
@@ -52,7 +53,7 @@ first-between c range stores =
       g = 0;
       good =
           record {
-            servers-ok = λ s low high. server-at-first c none s (stores s) low high (server-settings c range s low high);
+            servers-ok = λ s low high. server-at-first c none s (stores s) low (server-settings c range s low high);
             users-ok = λ a. first-user c a;
             room-ok = λ a t. not-both false t refl;
             free = λ _. refl;
@@ -83,10 +84,10 @@ module _ (c : Setup) (range : InRange c) where
   unfolding ValidInput
   step r a (startUpdate m) left x valid o = update-step c range r a m left x (valid .one) (valid .listed) o
   step r a (startWrite m entry randomizer) left x valid o =
-      let n = now c range r a m entry randomizer left x (valid .one) (valid .listed) o in
-      by-bool (λ t. n .opened ≡ t → Stepped c r a (startWrite m entry randomizer) left x) (n .opened)
-      (λ _ t. open-step c range r a m entry randomizer left x (valid .one) (valid .listed) o t)
-      (λ _ f. updating-step c range r a m entry randomizer left x (valid .one) (valid .listed) o f) refl
+      let k = write-call c r a m entry randomizer (suc left) x o in
+      by-bool (λ t. k .call .opened ≡ t → Stepped c r a (startWrite m entry randomizer) left x) (k .call .opened)
+      (λ _ t. open-step c range r a m entry randomizer left x o k t (valid .one) (valid .listed))
+      (λ _ f. updating-step c range r a m entry randomizer left x (valid .one) (valid .listed) o k f) refl
   step r a (startRead m i) left x valid o = read-step c range r a m i left x (valid .one) (valid .listed) o
   step r a (answer y) left x valid o = absurd (valid .input)
 
@@ -95,10 +96,10 @@ module _ (c : Setup) (range : InRange c) where
   unfolding ValidInput
   late r a (startUpdate m) left x valid o = update-late c range r a m left x (valid .one) (valid .listed) o
   late r a (startWrite m entry randomizer) left x valid o =
-      let n = now c range r a m entry randomizer left x (valid .one) (valid .listed) o in
-      by-bool (λ t. n .opened ≡ t → Late c (o .log) (o .w) (begunBy r a (startWrite m entry randomizer)) (arrives c x a)) (n .opened)
-      (λ _ t. open-late c range r a m entry randomizer left x (valid .one) (valid .listed) o t)
-      (λ _ f. updating-late c range r a m entry randomizer left x (valid .one) (valid .listed) o f) refl
+      let k = write-call c r a m entry randomizer (suc left) x o in
+      by-bool (λ t. k .call .opened ≡ t → Late c (o .log) (o .w) (begunBy r a (startWrite m entry randomizer)) (arrives c x a)) (k .call .opened)
+      (λ _ t. open-late c range r a m entry randomizer left x o k t (valid .one) (valid .listed))
+      (λ _ f. updating-late c range r a m entry randomizer left x (valid .one) (valid .listed) o k f) refl
   late r a (startRead m i) left x valid o = read-late c range r a m i left x (valid .one) (valid .listed) o
   late r a (answer y) left x valid o = absurd (valid .input)
 

@@ -24,11 +24,12 @@ use Rattle.user.proofs.UpdateRules.{next-asked, later-position}
 use Rattle.user.proofs.Updates.{want-status, want-record, want-node, next-status, no-hash, hash-kept, heads-later, heads-last, contents-status, contents-record, contents-node, contents-last}
 use Rattle.whole_run.specs.Honest.{Setup, publicTo, settingsIn}
 use Rattle.whole_run.proofs.HonestState.{Item, hashOf, digestOf, ToldOk, RightBody, UpdateOk}
+use Rattle.whole_run.proofs.HonestLog.{hash-size, digest-size}
 use Rattle.whole_run.proofs.HonestNodes.{piece-written, piece-before}
-use Rattle.whole_run.proofs.HonestAnswers.{Fit, answer-passes, group-of, answerTo, hash-size, digest-size, right-code, right-body, right-shape}
+use Rattle.whole_run.proofs.HonestAnswers.{Fit, answer-passes, group-of, answerTo, right-code, right-body, right-shape}
 use Rattle.whole_run.proofs.HonestUpdates.{cover-none, waits-for, update-asks, true-answers}
-use Rattle.whole_run.proofs.HonestContents.{digest-back, record-holds, gives-own, gives-new}
 use Rattle.whole_run.proofs.HonestStatus.{head-told, head-holds, status-ok}
+use Rattle.whole_run.proofs.HonestContents.{digest-back, record-holds, gives-own, gives-new}
 
 -- 22, 21 and 18 pass, and what is checked after them decides
 setup-passes : (s : Settings) (k : Kept) (buffer : List ℕ) (cs : List Check) → settingsFit s ≡ true → keptFits k ≡ true → k .opened ≡ false

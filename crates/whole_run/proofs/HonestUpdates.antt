@@ -1,6 +1,6 @@
 -- An Update in an honest run: when it ends, what it asks for, and what it has at its end.
 use mathlib.Core.Path.{_≡_, refl, sym, ap, _∙_, subst}
-use mathlib.Core.Bool.{Bool, true, false, _&&_, _||_}
+use mathlib.Core.Bool.{Bool, true, false, _&&_, _||_, and-false}
 use mathlib.Core.List.{List}
 use Prim.Native.Nat.{ℕ, _+_, _-_, _≤_, _<_}
 use native.Mathlib.Omega.{arith}
@@ -66,11 +66,6 @@ waits-for n v u e =
       leb-false (n + 1 + length (cover v (u .position))) (u .asked) (x .1),
     )
 
--- both of two tests, where the second does not hold
-and-none : (a : Bool) → a && false ≡ false
-and-none true = refl
-and-none false = refl
-
 -- the stated count of answers, where nothing is committed
 answers-none : (n v w : ℕ) → w ≡ 0 → updateAnswers n v w ≡ n
 unfolding updateAnswers
@@ -107,7 +102,7 @@ module _ (n v w : ℕ) (L : ℕ → Item) (u : Update) (hashes : List ℕ) (ok :
       ∙ cases-eq w 0
       (λ z. let e : u .asked ≡ n = omega (arith, answers-none n v w z) in rw (answers-none n v w z, z, e, eq-eqb n n refl))
       (λ z.
-      rw (answers-some n v w z, ne-eqb w 0 z, and-none (eqb (u .asked) n))
+      rw (answers-some n v w z, ne-eqb w 0 z, and-false (eqb (u .asked) n))
       (cases-eq (u .asked) x (λ e. le-leb x (u .asked) (omega arith) ∙ sym (eq-eqb (u .asked) x e))
       (λ e. lt-leb x (u .asked) (omega (arith, answers-some n v w z)) ∙ sym (ne-eqb (u .asked) x e)))))
       (λ i. ended-early i ∙ sym (ne-eqb (u .asked) (updateAnswers n v w) (λ e. omega (arith, answers-low n v w))))

@@ -1,39 +1,36 @@
 -- A valid Write of an honest run starts: with its Update where nothing is open, and at the first Reserve where its write is open.
 use mathlib.Core.Path.{_≡_, refl, ap, sym, _∙_, subst}
-use mathlib.Core.Bool.{true, false, cond}
+use mathlib.Core.Bool.{true, false}
 use mathlib.Core.List.{List, []}
-use Prim.Native.Nat.{ℕ, zero, suc, _+_, _≤_, _<_}
+use Prim.Native.Nat.{ℕ, suc, _+_, _≤_, _<_}
 use native.Mathlib.Omega.{arith}
 use native.Mathlib.Nat.{zero-add}
 use lib.ListN.{length}
-use Rattle.tree.specs.Level.{lg, highestFull}
+use Rattle.sha256.proofs.Cases.{by-bool}
 use Rattle.tree.specs.Bytes.{written}
 use Rattle.tree.proofs.ByteLaws.{written-length}
 use Rattle.tree.proofs.Cases.{not-both}
-use Rattle.sha256.proofs.Cases.{by-bool}
-use Rattle.user.specs.declared.call.Kept.{Kept}
 use Rattle.user.specs.declared.call.Write.{Write}
 use Rattle.user.specs.declared.ask.Want.{Want}
 use Rattle.user.specs.Asking.{asks, asking}
 use Rattle.user.specs.Update.{freshUpdate, updateWant}
-use Rattle.user.specs.Write.{Key, WriteLeft, WriteLent, entryFits, commitNumber, writeWant, withHeld, withRequest, withUpdate, heldEntry, freshWrite, writeWaits, writeAsks, writeStarted}
+use Rattle.user.specs.Write.{Key, WriteLeft, WriteLent, entryFits, writeWant, withHeld, withRequest, withUpdate, heldEntry, freshWrite, writeWaits, writeStarted}
 use Rattle.user.proofs.UpdateRules.{askingLeft}
-use Rattle.user.proofs.Answers.{write-total}
 use Rattle.user.proofs.Writes.{commit-positive}
-use Rattle.whole_run.specs.World.{User, Lent, Input, startWrite, sentBy, writeLent, afterWrite, userStep}
-use Rattle.whole_run.specs.Honest.{Setup, InRange, keyOf, settingsIn, Network, steps, stepOf, Run, begins}
+use Rattle.whole_run.specs.World.{User, Lent, startWrite, writeLent, afterWrite, userStep}
+use Rattle.whole_run.specs.Honest.{Setup, InRange, keyOf, settingsIn, steps, stepOf, Run, begins}
 use Rattle.whole_run.specs.HonestClaim.{NewWrite, ValidMemory, ValidInput, ValidCall, updateAnswers, writeAnswers, answersOf, countOf}
-use Rattle.whole_run.proofs.Requests.{entry-short}
-use Rattle.whole_run.proofs.HonestState.{Item, bodyAt, OpenOk}
-use Rattle.whole_run.proofs.HonestFrames.{sentFor, sent-for}
+use Rattle.whole_run.proofs.Requests.{entry-sizes}
+use Rattle.whole_run.proofs.HonestState.{bodyAt, OpenOk}
+use Rattle.whole_run.proofs.HonestFrames.{sent-for, request-room}
 use Rattle.whole_run.proofs.HonestKeys.{tree-size}
 use Rattle.whole_run.proofs.HonestAnswers.{Fit}
 use Rattle.whole_run.proofs.HonestUpdates.{fresh-update, fresh-waits}
-use Rattle.whole_run.proofs.HonestBodies.{body-small}
+use Rattle.whole_run.proofs.HonestBodies.{first-small}
 use Rattle.whole_run.proofs.HonestOpening.{write-starts, entry-held}
 use Rattle.whole_run.proofs.HonestWrites.{asked-right, write-resumes}
 use Rattle.whole_run.proofs.HonestMoves.{withUser, none-open}
-use Rattle.whole_run.proofs.HonestCalls.{Updates, ToOpen, Opened, WriteCall, CallOk, Between, OnWay, Started}
+use Rattle.whole_run.proofs.HonestCalls.{ToOpen, Opened, WriteCall, CallOk, Between, OnWay, Started}
 use Rattle.whole_run.proofs.HonestStarts.{fit-user, start-on-way, first-status}
 
 module _ (c : Setup) (range : InRange c) (r : Run) (a : ℕ) (m : Lent) (entry randomizer : List ℕ) (between : Between c r)
@@ -72,7 +69,7 @@ module _ (c : Setup) (range : InRange c) (r : Run) (a : ℕ) (m : Lent) (entry r
   whole = ap (λ (k : Key). length (k .tree)) (given .key) ∙ tree-size c a
 
   short : length entry ≤ 1024
-  short = entry-short entry (given .fits)
+  short = entry-sizes entry (given .fits) .1
 
   abbrev fresh : Write
   fresh = freshWrite (user .kept) entry randomizer
@@ -84,6 +81,17 @@ module _ (c : Setup) (range : InRange c) (r : Run) (a : ℕ) (m : Lent) (entry r
   abbrev Goes : WriteLeft → Type 0
   Goes l = OnWay c r a (startWrite m entry randomizer) n (withUser (r .network) a (afterWrite user m l) (r .network .servers))
 
+  -- a start that leaves l asks for something
+  starts-so : (l : WriteLeft) → started ≡ l → l .step .code ≡ 0 → l .step .ended ≡ false → Goes l → Started c r a (startWrite m entry randomizer) n
+  unfolding steps stepOf userStep answersOf writeAnswers
+  starts-so l is code ended goes =
+      record {
+        some = omega arith;
+        code = ap (λ (x : WriteLeft). x .step .code) is ∙ code;
+        ended = ap (λ (x : WriteLeft). x .step .ended) is ∙ ended;
+        on-way = subst Goes (sym is) goes;
+      }
+
   -- nothing is open
   module _ (shut : user .kept .opened ≡ false) where
     abbrev waiting : WriteLeft
@@ -91,7 +99,8 @@ module _ (c : Setup) (range : InRange c) (r : Run) (a : ℕ) (m : Lent) (entry r
 
     new-is : started ≡ waiting
     new-is =
-        write-starts (settingsIn c a) (user .kept) lent entry randomizer (m .key) (fit .settings-fit) (fit .kept-fit) (given .memory .request) whole (given .fits) shut (given .new shut .number)
+        write-starts (settingsIn c a) (user .kept) lent entry randomizer (m .key) (fit .settings-fit) (fit .kept-fit)
+        (given .memory .request) whole (given .fits) shut (given .new shut .number)
         ∙ ap (writeWaits (user .kept) fresh (withHeld lent (written (m .held) 0 entry))) (first-status c range a (user .kept) (m .hashes) (m .request))
 
     abbrev next : User
@@ -129,7 +138,7 @@ module _ (c : Setup) (range : InRange c) (r : Run) (a : ℕ) (m : Lent) (entry r
               record {
                 hashes = given .memory .hashes;
                 held = written-length (m .held) 0 entry ∙ given .memory .held;
-                request = omega (arith, given .memory .request, written-length (m .request) 0 (asks (settingsIn c a) (updateWant (c .servers) (user .kept .version) freshUpdate) []));
+                request = request-room (m .request) _ (given .memory .request);
               };
           key = given .key;
           randomizer = given .random;
@@ -140,21 +149,18 @@ module _ (c : Setup) (range : InRange c) (r : Run) (a : ℕ) (m : Lent) (entry r
         }
 
     new-start : Started c r a (startWrite m entry randomizer) n
-    unfolding steps stepOf userStep CallOk answersOf writeAnswers writeWaits asking afterWrite
+    unfolding CallOk writeWaits asking afterWrite
     new-start =
-        record {
-          some = omega arith;
-          code = ap (λ (l : WriteLeft). l .step .code) new-is;
-          ended = ap (λ (l : WriteLeft). l .step .ended) new-is;
-          on-way =
-              subst Goes (sym new-is)
-              (start-on-way c r a (startWrite m entry randomizer) between (valid .alone) next refl refl refl refl (λ o. not-both (user .kept .opened) o shut) n new-call);
-        }
+        starts-so waiting new-is refl refl
+        (start-on-way c r a (startWrite m entry randomizer) between (valid .alone) next refl refl refl refl (λ o. not-both (user .kept .opened) o shut) n
+        new-call)
 
   -- its own write is open
   module _ (opened : user .kept .opened ≡ true) where
     ok : OpenOk c (between .log) (between .w) (between .g) a entry (user .kept) (user .path) (user .signature)
-    ok = subst (λ (e : List ℕ). OpenOk c (between .log) (between .w) (between .g) a e (user .kept) (user .path) (user .signature)) (sym (given .resumes opened)) (between .good .users-ok a .open-ok opened)
+    ok =
+        subst (λ (e : List ℕ). OpenOk c (between .log) (between .w) (between .g) a e (user .kept) (user .path) (user .signature))
+        (sym (given .resumes opened)) (between .good .users-ok a .open-ok opened)
 
     abbrev want : Want
     want = writeWant (c .servers) (suc (between .w)) 0
@@ -174,18 +180,17 @@ module _ (c : Setup) (range : InRange c) (r : Run) (a : ℕ) (m : Lent) (entry r
     resumed-is : started ≡ reserving
     unfolding freshWrite
     resumed-is =
-        write-resumes c range (between .log) (between .w) (between .g) a entry (user .kept) lent opened (fit .kept-fit) ok (given .memory .request) randomizer (m .key) whole (given .fits)
-        ∙ asked-right (settingsIn c a) (between .log) (between .w) (user .kept) fresh (withHeld lent (written (m .held) 0 entry)) (ok .version) (ok .path-ok) (held ∙ sym (ok .entry))
+        write-resumes c range (between .log) (between .w) (between .g) a entry (user .kept) lent opened (fit .kept-fit) ok
+        (given .memory .request) randomizer (m .key) whole (given .fits)
+        ∙ asked-right (settingsIn c a) (between .log) (between .w) (user .kept) fresh (withHeld lent (written (m .held) 0 entry)) (ok .version)
+        (ok .path-ok) (held ∙ sym (ok .entry))
         (λ e. absurd (omega (arith, commit-positive (suc (between .w))))) (omega arith)
 
     abbrev again : User
     again = afterWrite user m reserving
 
     body-fits : 26 + length body ≤ length (m .request)
-    body-fits =
-        let z = commit-positive (suc (between .w)) in
-        let b = body-small (between .log) (between .w) 0 (ok .item .short) (λ e. absurd (omega arith)) (omega arith) in
-        omega (arith, given .memory .request)
+    body-fits = omega (arith, first-small (between .log) (between .w) (ok .item .short), given .memory .request)
 
     open-call : Opened c (between .log) (between .w) (between .g) a n again fresh
     unfolding afterWrite answersOf freshWrite
@@ -209,7 +214,7 @@ module _ (c : Setup) (range : InRange c) (r : Run) (a : ℕ) (m : Lent) (entry r
               record {
                 hashes = given .memory .hashes;
                 held = written-length (m .held) 0 entry ∙ given .memory .held;
-                request = omega (arith, given .memory .request, written-length (m .request) 0 (asks (settingsIn c a) want body));
+                request = request-room (m .request) _ (given .memory .request);
               };
           key = given .key;
           randomizer = given .random;
@@ -220,17 +225,12 @@ module _ (c : Setup) (range : InRange c) (r : Run) (a : ℕ) (m : Lent) (entry r
         }
 
     resumed-start : Started c r a (startWrite m entry randomizer) n
-    unfolding steps stepOf userStep CallOk answersOf writeAnswers asking afterWrite begins
+    unfolding CallOk asking afterWrite begins
     resumed-start =
-        record {
-          some = omega arith;
-          code = ap (λ (l : WriteLeft). l .step .code) resumed-is;
-          ended = ap (λ (l : WriteLeft). l .step .ended) resumed-is;
-          on-way =
-              subst Goes (sym resumed-is)
-              (start-on-way c r a (startWrite m entry randomizer) between (valid .alone) again refl refl refl refl (λ o. given .resumes o) n resumed-call);
-        }
+        starts-so reserving resumed-is refl refl
+        (start-on-way c r a (startWrite m entry randomizer) between (valid .alone) again refl refl refl refl (λ o. given .resumes o) n resumed-call)
 
+  -- a valid Write starts, new or resumed
   pub write-start : Started c r a (startWrite m entry randomizer) n
   write-start =
       by-bool (λ t. user .kept .opened ≡ t → Started c r a (startWrite m entry randomizer) n) (user .kept .opened)

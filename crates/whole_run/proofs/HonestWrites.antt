@@ -2,7 +2,7 @@
 use mathlib.Core.Path.{_≡_, refl, ap, ap₂, sym, _∙_}
 use mathlib.Core.Bool.{Bool, true, false, cond, not, _&&_, _||_, and-false, or-true, or-false}
 use mathlib.Core.List.{List, []}
-use Prim.Native.Nat.{ℕ, suc, _≤_, _<_}
+use Prim.Native.Nat.{ℕ, suc, _≤_, _<_, _-_}
 use native.Mathlib.Omega.{arith}
 use lib.Dec.{eqb, leb, ltb}
 use lib.ListN.{length}
@@ -24,9 +24,11 @@ use Rattle.user.specs.Asking.{settingsFit, keptFits, setupChecks, requestRoom, 
 use Rattle.user.specs.Write.{Key, WriteLent, WriteLeft, withRequest, withHeld, withSignature, openedAt, entryFits, ownLeaf, pathDigest, heldEntry, freshWrite, commitNumber, writeKind, writeLevel, writeWant, writeBody, writeRoom, writeStarted, writeAsks, signsNext, writeChecks, commitSignature, writeSignature, signing, committed, writeUpdates, writeGoes, writeTaken}
 use Rattle.whole_run.specs.Honest.{Setup, InRange, settingsIn}
 use Rattle.whole_run.proofs.HonestState.{Item, hashOf, digestOf, OpenOk, bodyAt}
+use Rattle.whole_run.proofs.HonestLog.{hash-of-leaf}
 use Rattle.whole_run.proofs.HonestKeys.{user-settings}
+use Rattle.whole_run.proofs.HonestAnswers.{right-answer}
+use Rattle.whole_run.proofs.HonestBodies.{level-low, kind-low, path-digest, body-is}
 use Rattle.whole_run.proofs.HonestOpening.{start-passes, started, start-goes}
-use Rattle.whole_run.proofs.HonestBodies.{leaf-hash, level-low, kind-low, path-digest, body-is, right-answer}
 
 -- what an open write hands out, where path, entry and signature are those of the log's place w
 pub asked-right : (s : Settings) (L : ℕ → Item) (w : ℕ) (k : Kept) (call : Write) (m : WriteLent) → k .version ≡ w
@@ -68,6 +70,19 @@ accepted n p j two sixteen some few =
     let server = owner-range n p (writeLevel p j) (omega arith) in
     right-answer (writeWant n p j) [] (omega (arith, kind .1)) (omega (arith, server .1)) (omega arith) (omega arith) (no-body (writeKind p j) (kind .0))
 
+-- what is kept of a committed write: its position and its digest
+module _ (c : Setup) (L : ℕ → Item) (w g a : ℕ) (entry : List ℕ) (k : Kept) (path signature : List ℕ)
+    (ok : OpenOk c L w g a entry k path signature) where
+  -- the version
+  pub commit-version : committed k path .version ≡ suc w
+  unfolding committed
+  commit-version = ap suc (ok .version)
+
+  -- the digest
+  pub commit-digest : committed k path .digest ≡ digestOf L (suc w)
+  unfolding committed
+  commit-digest = ap (λ (v : ℕ). pathDigest (suc v) path) (ok .version) ∙ path-digest L w path (ok .path-ok)
+
 -- an open write of user a, and the memory that is lent to it
 module _ (c : Setup) (r : InRange c) (L : ℕ → Item) (w g a : ℕ) (entry : List ℕ) (k : Kept) (m : WriteLent)
     (opened : k .opened ≡ true) (in-range : keptFits k ≡ true) (ok : OpenOk c L w g a entry k (m .path) (m .signature))
@@ -83,7 +98,7 @@ module _ (c : Setup) (r : InRange c) (L : ℕ → Item) (w g a : ℕ) (entry : L
   unfolding ownLeaf
   same-leaf =
       ap₂ (λ (x : ℕ) (y : List ℕ). value (leaf (entryText x y))) (sym (ok .author)) (sym (ok .entry))
-      ∙ sym (ok .path-ok 0 (omega arith) ∙ leaf-hash L w)
+      ∙ sym (ok .path-ok 0 (omega arith) ∙ (let e : suc w - 1 ≡ w = omega arith in rw e at (hash-of-leaf L (suc w))))
 
   -- 17: it is signed, or a number is left
   signed-or-spare : (k .signed || ltb (k .number) 1024) ≡ true
@@ -107,6 +122,7 @@ module _ (c : Setup) (r : InRange c) (L : ℕ → Item) (w g a : ℕ) (entry : L
 
   -- an answer taken in: request w′ .asked was accepted
   module _ (w′ : Write) (key : Key) (going : w′ .opened ≡ true) (few : w′ .asked ≤ commitNumber (suc w)) (whole : length (key .tree) ≡ 65504) where
+    -- the answer that accepts the request
     abbrev pub given : List ℕ
     given = accepts (c .servers) (suc w) (w′ .asked)
 
@@ -167,15 +183,6 @@ module _ (c : Setup) (r : InRange c) (L : ℕ → Item) (w g a : ℕ) (entry : L
         let e = ap (λ (v : ℕ). commitNumber (suc v)) (ok .version) in
         takes ∙ rw (eq-eqb (w′ .asked) (commitNumber (suc (k .version))) (omega arith))
 
-    pub commit-version : committed k (m .path) .version ≡ suc w
-    unfolding committed
-    commit-version = ap suc (ok .version)
-
-    pub commit-digest : committed k (m .path) .digest ≡ digestOf L (suc w)
-    unfolding committed
-    commit-digest =
-        ap (λ (v : ℕ). pathDigest (suc v) (m .path)) (ok .version) ∙ path-digest L w (m .path) (ok .path-ok)
-
     -- any other request is accepted: the next one goes out
     module _ (more : w′ .asked < commitNumber (suc w)) where
       next-goes : writeTaken (settingsIn c a) k w′ m key given ≡ goesOn
@@ -227,6 +234,7 @@ module _ (c : Setup) (r : InRange c) (L : ℕ → Item) (w g a : ℕ) (entry : L
         unfolding writeSignature
         signature-made = rw signs-now (ap (λ (v : ℕ). commitSignature (c .log) (suc v) key (k .number) (w′ .randomizer) (m .path)) (ok .version))
 
+        -- the signature is made, and the Commit goes out
         pub write-signs : writeTaken (settingsIn c a) k w′ m key given
             ≡ writeAsks (settingsIn c a) (signedKept k) (openedAt w′ (suc (w′ .asked)))
             (withSignature m (commitSignature (c .log) (suc w) key (k .number) (w′ .randomizer) (m .path)))

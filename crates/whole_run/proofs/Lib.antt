@@ -15,16 +15,17 @@ pub mod Steps
 pub mod Fork
 -- contracts and runs use the same definitions
 pub mod Contracts
--- the honest run: what holds between its steps, and laws of its log, labels and keys
+-- the honest run: what holds between its steps, and laws of its log, of one state changed, of labels and of keys
 pub mod HonestState
 pub mod HonestLog
+pub mod HonestFrames
 pub mod HonestHeads
 pub mod HonestKeys
 pub mod HonestNodes
-pub mod HonestCounts
 -- its servers
 pub mod HonestServed
 pub mod HonestRecords
+pub mod HonestCounts
 pub mod HonestServers
 pub mod HonestPulls
 pub mod HonestReserves
@@ -43,16 +44,18 @@ pub mod HonestOpening
 pub mod HonestWrites
 pub mod HonestSigning
 -- users and servers together: a call's start, each of its answers, and every list of calls
-pub mod HonestFrames
 pub mod HonestMoves
 pub mod HonestExchanges
 pub mod HonestCalls
+pub mod HonestSteps
 pub mod HonestStarts
 pub mod HonestWriteStarts
 pub mod HonestReadStarts
+pub mod HonestUpdateAnswers
 pub mod HonestUpdateCalls
 pub mod HonestWriteCalls
 pub mod HonestOpenCalls
+pub mod HonestOpenSteps
 pub mod HonestReadCalls
 pub mod HonestRun
 pub mod HonestTheorem

@@ -1,8 +1,8 @@
 -- A write opens: the Update of a Write has ended, and the first Reserve goes out.
 use mathlib.Core.Path.{_≡_, refl, ap, sym, _∙_}
-use mathlib.Core.Bool.{Bool, true, false, cond, not, _&&_, _||_}
-use mathlib.Core.List.{List, [], _∷_, _++_, List·Memᴰ, Memᴰ·append-left, Memᴰ·append-right}
-use Prim.Native.Nat.{ℕ, suc, _+_, _-_, _*_, _^_, _≤_, _<_}
+use mathlib.Core.Bool.{true, false, cond, _&&_}
+use mathlib.Core.List.{List, _++_, List·Memᴰ, Memᴰ·append-left, Memᴰ·append-right}
+use Prim.Native.Nat.{ℕ, suc, _+_, _≤_, _<_}
 use native.Mathlib.Omega.{arith}
 use lib.Dec.{eqb, leb}
 use lib.ListN.{length}
@@ -11,7 +11,7 @@ use Rattle.sha256.specs.Bytes.{written}
 use Rattle.sha256.proofs.Laws.{written-length}
 use Rattle.sha256.proofs.Cases.{by-bool}
 use Rattle.tree.specs.Level.{lg}
-use Rattle.tree.specs.Expr.{Expr, leaf, entryText, value, strings, NoCollision}
+use Rattle.tree.specs.Expr.{Expr, entryText, value, strings, NoCollision}
 use Rattle.tree.specs.Cover.{cover, coverDigest, coverPath, pathBytes, pathWritten}
 use Rattle.tree.specs.Message.{answerBody}
 use Rattle.tree.proofs.Cases.{cases-eq, not-both, positive, and-true}
@@ -22,10 +22,10 @@ use Rattle.tree.specs.Setup.{Settings}
 use Rattle.user.specs.declared.call.Kept.{Kept}
 use Rattle.user.specs.declared.call.Update.{Update}
 use Rattle.user.specs.declared.call.Write.{Write}
-use Rattle.user.specs.Asking.{requestRoom, refused, done, asking}
-use Rattle.user.specs.Update.{UpdateLeft, updateNext, updateCollected, updateEnded, updateRefused, updateGoes, updateTaken, arrived}
-use Rattle.user.specs.Write.{WriteLent, WriteLeft, withHashes, withPath, withUpdate, openedAt, ownLeaf, pathDigest, heldEntry, commitNumber, writeRefused, writeAsks, writeWaits, writeOpens, writeUpdates, opening}
-use Rattle.whole_run.specs.World.{Event, hashed, signed, allHashed, Lent, Sent, Reading, User, Outcome, sentBy, coverStrings, afterWrite, openingHashed, writeSigned, writeAccepted, writeLent, recordAccepted}
+use Rattle.user.specs.Asking.{refused, done, asking}
+use Rattle.user.specs.Update.{UpdateLeft, updateNext, updateCollected, updateEnded, updateRefused, arrived}
+use Rattle.user.specs.Write.{WriteLent, WriteLeft, withHashes, withPath, openedAt, ownLeaf, pathDigest, heldEntry, writeRefused, writeAsks, writeWaits, writeOpens, writeUpdates, opening}
+use Rattle.whole_run.specs.World.{Event, hashed, allHashed, Lent, Reading, User, Outcome, sentBy, coverStrings, afterWrite, openingHashed, writeSigned, writeAccepted, writeLent, recordAccepted}
 use Rattle.tree.proofs.Paths.{path-top}
 use Rattle.user.proofs.Passed.{or-cases}
 use Rattle.whole_run.proofs.Updating

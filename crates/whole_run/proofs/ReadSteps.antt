@@ -1,33 +1,24 @@
 -- The steps of a Read keep what holds of its user, and what it reads is in its view.
-use mathlib.Core.Path.{_≡_, refl, ap, sym, _∙_}
-use mathlib.Core.Bool.{Bool, true, false, cond, not, _&&_, _||_}
-use mathlib.Core.List.{List, [], _∷_, _++_, List·Memᴰ, List·Memᴰ·cases-cons}
-use mathlib.Core.Logic.{_⊎_, inl, inr}
-use Prim.Native.Nat.{ℕ, suc, _+_, _-_, _≤_, _<_}
+use mathlib.Core.Path.{_≡_, ap, sym, _∙_}
+use mathlib.Core.Bool.{true, cond}
+use mathlib.Core.List.{List, [], List·Memᴰ·cases-cons}
+use mathlib.Core.Logic.{inl, inr}
+use Prim.Native.Nat.{ℕ, _≤_}
 use native.Mathlib.Omega.{arith}
-use lib.Dec.{eqb, leb, ltb}
-use lib.ListN.{length, take, drop, length-take, length-drop}
-use lib.Seq.{take-at}
-use borrow.Author.Tests.{eq-eqb, ne-eqb, leb-true}
-use Rattle.sha256.specs.Bytes.{eqs, written}
-use Rattle.sha256.proofs.Laws.{eqs-true, written-fits}
-use Rattle.sha256.proofs.Cases.{by-bool}
-use Rattle.tree.specs.Expr.{value, strings, NoCollision}
-use Rattle.tree.specs.Tree.{digest}
-use Rattle.tree.specs.Read.{readDigest}
-use Rattle.tree.specs.Message.{answerCode, answerBody}
-use Rattle.tree.specs.Setup.{on, firstCode, Settings}
-use Rattle.tree.proofs.Cases.{and-true, cases-eq, by-eqb, not-both}
+use lib.ListN.{length, take}
+use borrow.Author.Tests.{ne-eqb}
+use Rattle.sha256.specs.Bytes.{written}
+use Rattle.tree.specs.Expr.{strings, NoCollision}
+use Rattle.tree.specs.Setup.{firstCode, Settings}
+use Rattle.tree.proofs.Cases.{by-eqb}
 use Rattle.tree.proofs.Agree.{AllIn, Sized}
 use Rattle.tree.proofs.Cuts.{read-digest-sized}
 use Rattle.tree.proofs.ReadLaws.{read-gives-leaf}
-use Rattle.tree.proofs.CheckLists.{check-passes}
 use Rattle.user.specs.declared.call.Kept.{Kept}
 use Rattle.user.specs.declared.call.Read.{Read}
-use Rattle.user.specs.declared.ask.Want.{Want}
-use Rattle.user.specs.Asking.{setupChecks, requestRoom, ofNode, headed, isAnswer, bodyFits, answerChecks, refused, done, asking}
+use Rattle.user.specs.Asking.{refused, done, asking}
 use Rattle.user.specs.Read
-use Rattle.user.specs.Read.{ReadLent, ReadLeft, readWith, readHashes, readHeld, readCount, readWant, readChecks, freshRead, readAsks, readRefused, readStarted, readNext, heldText, textAuthor, textEntry, readOver, readGives, readEarly, readCollected, readEnds, readTaken}
+use Rattle.user.specs.Read.{ReadLent, ReadLeft, readChecks, freshRead, readAsks, readRefused, readStarted, readNext, heldText, textAuthor, textEntry, readOver, readGives, readEnds, readTaken}
 use Rattle.whole_run.specs.World.{Event, Lent, Reading, User, Outcome, returned, newReads, afterRead, readHashed, readLent}
 use Rattle.user.proofs.ReadRules.{by-taken, next, collected, next-small, entry-kept, handed, held-small, read-given}
 use Rattle.whole_run.proofs.States
@@ -98,7 +89,9 @@ module _ (s : Settings) (H : ℕ) (named : length (s .log) ≡ 16)
         let text = heldText r (x .held) in
         let entry : take (length (textEntry text)) (written (x .entry) 0 (textEntry text)) ≡ textEntry text =
         handed (textEntry text) (x .entry) (omega (arith, held-small r (x .held) small)) in
-        let strings-in = noted-in s H named S G A free (readOver (u .kept .version) r (x .hashes) (x .held)) _ (over-sized (u .kept .version) r (x .hashes) (x .held)) (λ t y. y) (n .hashes) in
+        let strings-in =
+        noted-in s H named S G A free (readOver (u .kept .version) r (x .hashes) (x .held)) _ (over-sized (u .kept .version) r (x .hashes) (x .held))
+        (λ t y. y) (n .hashes) in
         let ok = read-ok (u .kept) r (x .hashes) (x .held) some within e strings-in in
         record {
           user = record {
@@ -136,6 +129,9 @@ module _ (s : Settings) (H : ℕ) (named : length (s .log) ≡ 16)
     pub read-started-ok : (p : ℕ) → Good (started (readStarted s (u .kept) (readLent m) p))
     unfolding readStarted freshRead
     read-started-ok p =
-        by-eqb (λ b. Good (started (cond b (readAsks s (u .kept) (freshRead p) (readLent m)) (readRefused (firstCode (readChecks s (u .kept) p (readLent m))) [] (freshRead p) (readLent m)))))
+        by-eqb
+        (λ b.
+        Good (started (cond b (readAsks s (u .kept) (freshRead p) (readLent m))
+        (readRefused (firstCode (readChecks s (u .kept) p (readLent m))) [] (freshRead p) (readLent m)))))
         (firstCode (readChecks s (u .kept) p (readLent m))) 0
         (λ e. quiet _ (asks-ok (freshRead p) (readLent m) (omega arith))) (λ n. quiet _ (refused-ok _ [] (freshRead p) (readLent m) n))

@@ -86,10 +86,13 @@ body-short p j w o short z =
     (λ d. by-cond (λ (q : List ℕ). length q ≤ 2540) (ltb j (commitNumber p)) _ _ (λ c. omega (arith, piece-length (o .path) (writeLevel p j)))
     (λ c. omega (arith, length-append (piece (o .path) (lg p)) (o .signature), piece-length (o .path) (lg p)))))
 
-pub entry-short : (entry : List ℕ) → entryFits entry ≡ true → length entry ≤ 1024
+-- the sizes that an entry may have
+pub entry-sizes : (entry : List ℕ) → entryFits entry ≡ true → (1 ≤ length entry) × (length entry ≤ 1024)
 unfolding entryFits
-entry-short entry e =
-    leb-true (length entry) 1024 (and-true (leb (length entry) 1024) _ (and-true (leb 1 (length entry)) _ e .1) .0)
+entry-sizes entry e =
+    let some = and-true (leb 1 (length entry)) _ e in
+    let short = and-true (leb (length entry) 1024) _ (some .1) in
+    (leb-true 1 (length entry) (some .0), leb-true (length entry) 1024 (short .0))
 
 pub room-passed : (key : Key) (buffer : List ℕ) → writeRoom key buffer ≡ true → (2566 ≤ length buffer) × (65504 ≤ length (key .tree))
 unfolding writeRoom requestRoom

@@ -1,9 +1,9 @@
 -- What holds of a user between steps, and how it goes on as the view grows.
-use mathlib.Core.Path.{_≡_, refl, ap, sym, _∙_}
+use mathlib.Core.Path.{_≡_, ap, sym, _∙_}
 use mathlib.Core.Bool.{Bool, true, false, cond}
-use mathlib.Core.List.{List, [], _∷_, _++_, List·Memᴰ, List·Memᴰ·head, List·Memᴰ·tail, List·Memᴰ·not-nil, List·Memᴰ·cases-cons, List·Memᴰ·append-cases, Memᴰ·append-left, Memᴰ·append-right}
-use mathlib.Core.Logic.{_⊎_, inl, inr}
-use Prim.Native.Nat.{ℕ, suc, _+_, _-_, _≤_, _<_}
+use mathlib.Core.List.{List, [], _∷_, _++_, List·Memᴰ, List·Memᴰ·head, List·Memᴰ·tail, List·Memᴰ·not-nil, List·Memᴰ·cases-cons, List·Memᴰ·append-cases}
+use mathlib.Core.Logic.{inl, inr}
+use Prim.Native.Nat.{ℕ, suc, _-_, _≤_, _<_}
 use native.Mathlib.Omega.{arith}
 use lib.ListN.{length}
 use Rattle.tree.specs.Level.{lg}
@@ -20,7 +20,7 @@ use Rattle.user.specs.declared.call.Update.{Update}
 use Rattle.user.specs.declared.call.Write.{Write}
 use Rattle.user.specs.Write.{commitNumber, pathDigest}
 use Rattle.user.specs.Read.{textAuthor, textEntry}
-use Rattle.whole_run.specs.World.{Event, hashed, signed, accepted, answered, allHashed, Call, idle, updating, writing, reading, Sent, Reading, User, Outcome}
+use Rattle.whole_run.specs.World.{Event, hashed, signed, accepted, allHashed, Call, idle, updating, writing, reading, Sent, Reading, User, Outcome}
 use Rattle.whole_run.proofs.Histories
 use Rattle.whole_run.proofs.Updating
 

@@ -1,8 +1,8 @@
 -- The steps of an Update keep what holds of its user.
-use mathlib.Core.Path.{_≡_, refl, ap, sym, _∙_}
-use mathlib.Core.Bool.{Bool, true, false, cond, _&&_}
-use mathlib.Core.List.{List, [], _∷_, _++_, List·Memᴰ, List·Memᴰ·head, Memᴰ·append-left, Memᴰ·append-right}
-use Prim.Native.Nat.{ℕ, suc, _+_, _-_, _≤_, _<_}
+use mathlib.Core.Path.{_≡_, refl}
+use mathlib.Core.Bool.{true, cond, _&&_}
+use mathlib.Core.List.{List, [], _++_, List·Memᴰ, List·Memᴰ·head, Memᴰ·append-left, Memᴰ·append-right}
+use Prim.Native.Nat.{ℕ, _≤_}
 use native.Mathlib.Omega.{arith}
 use lib.Dec.{eqb}
 use lib.ListN.{length}
@@ -11,19 +11,18 @@ use Rattle.sha256.specs.Bytes.{numberAt}
 use Rattle.tree.specs.Expr.{strings, NoCollision}
 use Rattle.tree.specs.Cover.{coverDigest}
 use Rattle.tree.specs.Message.{answerBody, signedText}
-use Rattle.tree.specs.Setup.{on, firstCode, Settings}
+use Rattle.tree.specs.Setup.{firstCode, Settings}
 use Rattle.tree.proofs.Cases.{cases-eq, positive, not-both, by-eqb}
 use Rattle.tree.proofs.Agree.{AllIn}
 use Rattle.tree.proofs.Cuts.{cover-digest-sized}
-use Rattle.tree.proofs.CheckLists.{check-passes}
 use Rattle.user.specs.declared.call.Kept.{Kept}
 use Rattle.user.specs.declared.call.Step.{Step}
 use Rattle.user.specs.declared.call.Update.{Update}
 use Rattle.user.specs.Asking.{requestRoom, refused, done, asking}
 use Rattle.user.specs.Update.{UpdateLeft, freshUpdate, updateNext, updateCollected, updateEnded, updateSetup, updateGoes, updateRefused, updateStarted, updateTaken, arrived}
-use Rattle.whole_run.specs.World.{Event, Reading, accepted, hashed, allHashed, Lent, idle, updating, User, Outcome, returned, coverStrings, afterUpdate, updateHashed, recordAccepted, sentBy}
+use Rattle.whole_run.specs.World.{Event, Reading, hashed, allHashed, Lent, User, Outcome, returned, coverStrings, afterUpdate, updateHashed, recordAccepted}
 use Rattle.whole_run.proofs.Histories
-use Rattle.user.proofs.Passed.{InRange, setup-passed}
+use Rattle.user.proofs.Passed.{setup-passed}
 use Rattle.whole_run.proofs.Updating
 use Rattle.user.proofs.UpdateRules.{Taken, by-taken, by-goes, endedLeft, askingLeft}
 use Rattle.whole_run.proofs.Updating.{next-ok, arrives}

@@ -26,7 +26,7 @@ use Rattle.whole_run.specs.Runs.{Step, user, server, newUser, setup, wit
 use Rattle.whole_run.specs.Claim.{ViewIsVersion}
 use Rattle.user.proofs.Passed.{setup-passed, answer-passed, by-cond}
 use Rattle.user.proofs.UpdateRules.{Above, next-above, by-taken, by-goes}
-use Rattle.whole_run.proofs.Requests.{sent-kind, sent-position, update-kind, write-kind, reserve-first, body-short, entry-short, room-passed, signature-sized}
+use Rattle.whole_run.proofs.Requests.{sent-kind, sent-position, update-kind, write-kind, reserve-first, body-short, room-passed, signature-sized, entry-sizes}
 
 -- an Update does not end before its last Status
 not-ended : (n v : ℕ) (c : Update) → c .asked < n → updateEnded n v c ≡ false
@@ -195,7 +195,7 @@ module _ (s : Settings) (named : length (s .log) ≡ 16) (u : User) (h : Holds (
       (λ e.
       let first = setup-passed s k (writeRoom (m .key) (m .request)) _ (eqb-true code 0 e) in
       let same = check-passes 18 _ _ (λ z. omega arith) (first .2) in
-      let short = entry-short entry (check-passes 19 _ _ (λ z. omega arith) (same .1) .0) in
+      let short = entry-sizes entry (check-passes 19 _ _ (λ z. omega arith) (same .1) .0) .1 in
       let room = room-passed (m .key) (m .request) (first .1) .0 in
       by-cond (Keeps m) (k .opened) _ _
       (λ d. holds-asking s named u m k w o (h .sized) room short random d (first .0 .version) (λ i. h .seen))

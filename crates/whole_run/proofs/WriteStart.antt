@@ -1,10 +1,10 @@
 -- The start of a Write: it resumes the open write, or begins with an Update.
 use mathlib.Core.Path.{_≡_, refl}
-use mathlib.Core.Bool.{Bool, true, false, cond, not, _&&_, _||_}
-use mathlib.Core.List.{List, [], _∷_, _++_}
+use mathlib.Core.Bool.{true, false, cond, _&&_}
+use mathlib.Core.List.{List, []}
 use Prim.Native.Nat.{ℕ, suc, _≤_}
 use native.Mathlib.Omega.{arith}
-use lib.Dec.{eqb, leb, ltb}
+use lib.Dec.{eqb}
 use lib.ListN.{length}
 use Rattle.sha256.specs.Bytes.{written}
 use Rattle.sha256.proofs.Cases.{by-bool}
@@ -13,12 +13,12 @@ use Rattle.tree.specs.Setup.{firstCode, Settings}
 use Rattle.tree.proofs.Cases.{not-both, by-eqb, and-true}
 use Rattle.user.specs.declared.call.Kept.{Kept}
 use Rattle.user.specs.declared.call.Write.{Write}
-use Rattle.user.specs.Asking.{setupChecks, requestRoom, refused, done, asking}
+use Rattle.user.specs.Asking.{requestRoom, refused, done, asking}
 use Rattle.user.specs.Update.{freshUpdate, updateGoes}
 use Rattle.user.specs.Write.{WriteLent, WriteLeft, withHeld, ownLeaf, freshWrite, writeRefused, writeAsks, writeWaits, writeRoom, writeStartChecks, writeStarted}
 use Rattle.whole_run.specs.World.{Event, allHashed, Lent, Reading, User, Outcome, sentBy, afterWrite, writeLent}
-use Rattle.user.proofs.Passed.{InRange, setup-passed}
-use Rattle.user.proofs.UpdateRules.{by-goes, endedLeft, askingLeft}
+use Rattle.user.proofs.Passed.{setup-passed}
+use Rattle.user.proofs.UpdateRules.{by-goes, askingLeft}
 use Rattle.whole_run.proofs.States
 use Rattle.whole_run.proofs.States.{NoneSigned, none-of-none, none-hashed, none-cond}
 use Rattle.whole_run.proofs.UpdateSteps.{fresh-ok}

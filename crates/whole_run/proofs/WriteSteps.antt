@@ -2,33 +2,30 @@
 use mathlib.Core.Path.{_≡_, refl, ap, sym, _∙_}
 use mathlib.Core.Bool.{Bool, true, false, cond, not, _&&_, _||_}
 use mathlib.Core.List.{List, [], _∷_, _++_, List·Memᴰ, List·Memᴰ·head, List·Memᴰ·not-nil, List·Memᴰ·cases-cons, List·Memᴰ·append-cases, Memᴰ·append-left, Memᴰ·append-right}
-use mathlib.Core.Logic.{_⊎_, inl, inr}
-use Prim.Native.Nat.{ℕ, suc, _+_, _-_, _*_, _≤_, _<_}
+use mathlib.Core.Logic.{inl, inr}
+use Prim.Native.Nat.{ℕ, suc, _-_, _≤_, _<_}
 use native.Mathlib.Omega.{arith}
 use lib.Dec.{eqb}
 use lib.ListN.{length}
-use borrow.Author.Tests.{eq-eqb, ne-eqb, eqb-true}
+use borrow.Author.Tests.{eq-eqb, ne-eqb}
 use Rattle.sha256.proofs.Cases.{by-bool}
 use Rattle.tree.specs.Level.{lg}
 use Rattle.tree.specs.Label.{owner}
 use Rattle.tree.specs.Expr.{NoCollision}
-use Rattle.tree.specs.Tree.{digest}
-use Rattle.tree.specs.Message.{request, answerCode, signedText}
-use Rattle.tree.specs.Setup.{firstCode, Settings}
-use Rattle.tree.proofs.Cases.{and-true, cases-eq, cases-le, not-both, by-eqb, positive}
+use Rattle.tree.specs.Message.{request, signedText}
+use Rattle.tree.specs.Setup.{Settings}
+use Rattle.tree.proofs.Cases.{and-true, cases-eq, not-both}
 use Rattle.user.specs.declared.call.Kept.{Kept}
-use Rattle.user.specs.declared.call.Update.{Update}
 use Rattle.user.specs.declared.call.Write.{Write}
-use Rattle.user.specs.Asking.{requestRoom, refused, done, asking}
-use Rattle.user.specs.Update.{UpdateLeft}
+use Rattle.user.specs.Asking.{refused, done, asking}
 use Rattle.user.specs.Read.{textAuthor, textEntry}
 use Rattle.user.specs.Write.{WriteLent, WriteLeft, withSignature, openedAt, commitNumber, pathDigest, writeRefused, writeAsks, signsNext, writeSignature, signing, committed, writeGoes}
-use Rattle.whole_run.specs.World.{Event, signed, Lent, Sent, Reading, User, Outcome, sentBy, afterWrite, openingHashed, writeSigned, writeAccepted, writeLent, recordAccepted, returned}
+use Rattle.whole_run.specs.World.{Event, signed, Lent, Sent, Reading, User, Outcome, sentBy, afterWrite, openingHashed, writeSigned, writeAccepted, writeLent}
 use Rattle.whole_run.proofs.Histories
 use Rattle.whole_run.proofs.Histories.{extend, extend-old, held-longer, held-agree}
-use Rattle.user.proofs.Passed.{InRange, or-cases}
+use Rattle.user.proofs.Passed.{or-cases}
 use Rattle.whole_run.proofs.States
-use Rattle.whole_run.proofs.States.{NoneSigned, none-of-none, none-hashed, none-append, none-cond}
+use Rattle.whole_run.proofs.States.{NoneSigned, none-of-none, none-hashed, none-cond}
 use Rattle.whole_run.proofs.UpdateSteps
 use Rattle.whole_run.proofs.UpdateSteps.{record-signs-nothing}
 use Rattle.user.proofs.WriteRules.{signs-last, Going, by-going, reserve-sent, commit-late}
@@ -232,7 +229,8 @@ module _ (s : Settings) (H : ℕ) (named : length (s .log) ≡ 16)
                 goes = λ _. record {
                   took = took-now;
                   signs = λ h. signed-then h ne;
-                  asks = λ h. reserve-sent s (signing (u .kept) w) (openedAt w (suc (w .asked))) (withSignature lent (writeSignature s (u .kept) w lent (m .key))) named (g .room) h;
+                  asks = λ h. reserve-sent s (signing (u .kept) w) (openedAt w (suc (w .asked))) (withSignature lent (writeSignature s (u .kept) w lent (m .key)))
+                      named (g .room) h;
                 };
               };
             };
@@ -252,9 +250,9 @@ module _ (s : Settings) (H : ℕ) (named : length (s .log) ≡ 16)
           }
 
     -- an answer that an open write takes in
-    refused-ok : (w : Write) (a : List ℕ) (code : ℕ) → w .opened ≡ true → (code ≡ 0 → ⊥) → Good (outcome w a (writeRefused code a (u .kept) w (writeLent u m)))
+    refused-ok : (w : Write) (a : List ℕ) (code : ℕ) → (code ≡ 0 → ⊥) → Good (outcome w a (writeRefused code a (u .kept) w (writeLent u m)))
     unfolding afterWrite writeRefused refused writeSigned
-    refused-ok w a code o z =
+    refused-ok w a code z =
         record {
           user = record { state = i; call = tt };
           signatures = λ b t x. absurd (List·Memᴰ·not-nil (rw (ne-eqb code 0 z) at (only-signed s (u .kept) w (writeRefused code a (u .kept) w (writeLent u m)) a b t x)));
@@ -267,4 +265,4 @@ module _ (s : Settings) (H : ℕ) (named : length (s .log) ≡ 16)
         → Good (outcome w a (writeGoes s (u .kept) w (writeLent u m) (m .key) a))
     write-goes-ok w a o ok fair =
         by-going s (u .kept) w (writeLent u m) (m .key) a (λ l. Noted (outcome w a l .events) → Good (outcome w a l))
-        (λ z n. refused-ok w a _ o z) (λ g e n. committed-ok w a ok fair o g e) (λ g e n. next-ok w a ok fair o g e n)
+        (λ z n. refused-ok w a _ z) (λ g e n. committed-ok w a ok fair o g e) (λ g e n. next-ok w a ok fair o g e n)
