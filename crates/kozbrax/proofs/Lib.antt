@@ -2,3 +2,6 @@
 pub mod Ranges
 pub mod Nodes
 pub mod Heads
+pub mod States
+pub mod Narrowed
+pub mod UserCalls

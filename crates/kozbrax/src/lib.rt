@@ -3,5 +3,8 @@ mod board;
 mod cover;
 mod hash;
 mod label;
+mod numbers;
 mod serving;
 mod signature;
+mod user_state;
+mod using;
