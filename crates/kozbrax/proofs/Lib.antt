@@ -5,3 +5,4 @@ pub mod Heads
 pub mod States
 pub mod Narrowed
 pub mod UserCalls
+pub mod UserAnswers

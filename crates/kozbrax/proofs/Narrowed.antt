@@ -1,6 +1,6 @@
 -- A number of servers or of a user that does not fit its range is refused with 22, whatever it is. So an export may pass on another one.
-use mathlib.Core.Path.{_≡_, refl, _∙_, sym, ap}
-use mathlib.Core.Bool.{Bool, true, false, cond}
+use mathlib.Core.Path.{_≡_, _∙_, sym}
+use mathlib.Core.Bool.{true, false, cond}
 use mathlib.Core.List.{List, []}
 use Prim.Native.Nat.{ℕ, _≤_, min}
 use native.Mathlib.Omega.{arith}
@@ -92,9 +92,9 @@ pub read-unfit : (k : Kept) (r : Read) (m : ReadLent) (a : List ℕ) (s : Settin
 unfolding readTaken readCollected readEarly readChecks setupChecks firstCode
 read-unfit k r m a s e = rw e
 
-stray-unfit : (m : UserLent) (s : Settings) → settingsFit s ≡ false → strayCode s m ≡ 22
+stray-unfit : (kept request : List ℕ) (s : Settings) → settingsFit s ≡ false → strayCode s kept request ≡ 22
 unfolding strayCode setupChecks firstCode
-stray-unfit m s e = rw e
+stray-unfit kept request s e = rw e
 
 pub user-narrowed : (m : UserLent) (key : Key) (a : List ℕ) (servers own : ℕ) (log users : List ℕ)
     → userAnswered (settings (min servers 255) (min own 65535) log users) m key a ≡ userAnswered (settings servers own log users) m key a
@@ -107,5 +107,5 @@ user-narrowed m key a servers own log users =
       narrowed (λ s. updateTaken s k (updateOf (m .call)) (m .hashes) (m .request) a) _ (update-unfit k (updateOf (m .call)) (m .hashes) (m .request) a) servers own log users,
       narrowed (λ s. writeTaken s k (writeOf (m .call)) w key a) _ (write-unfit k (writeOf (m .call)) w key a) servers own log users,
       narrowed (λ s. readTaken s k (readOf (m .call)) r a) _ (read-unfit k (readOf (m .call)) r a) servers own log users,
-      narrowed (λ s. strayCode s m) 22 (stray-unfit m) servers own log users,
+      narrowed (λ s. strayCode s (m .kept) (m .request)) 22 (stray-unfit (m .kept) (m .request)) servers own log users,
     )

@@ -1,17 +1,12 @@
 -- The user's exports over its calls.
-use mathlib.Core.Path.{_≡_, refl, _∙_, sym, ap, subst}
-use mathlib.Core.Bool.{Bool, true, false, cond, _&&_}
-use mathlib.Core.List.{List, [], _∷_, _++_}
+use mathlib.Core.Path.{_≡_, _∙_, ap}
+use mathlib.Core.Bool.{false}
+use mathlib.Core.List.{List, [], _∷_}
 use Prim.Native.Nat.{ℕ, min}
-use lib.Dec.{eqb, leb}
-use lib.ListN.{getD}
 use Rattle.tree.specs.Setup.{Settings, settings}
 use Rattle.user.specs.declared.call.Kept.{Kept}
-use Rattle.user.specs.declared.call.Update.{Update}
 use Rattle.user.specs.declared.call.UpdateStep.{UpdateStep}
-use Rattle.user.specs.declared.call.Write.{Write}
 use Rattle.user.specs.declared.call.WriteStep.{WriteStep}
-use Rattle.user.specs.declared.call.Read.{Read}
 use Rattle.user.specs.declared.call.ReadStep.{ReadStep}
 use Rattle.user.specs.declared.call.Settled.{Settled}
 use Rattle.user.specs.Asking.{settingsFit}
@@ -20,7 +15,7 @@ use Rattle.user.specs.Write.{WriteLent, WriteLeft, writeStep, writeStarted}
 use Rattle.user.specs.Writing.{keyOf, lentOf}
 use Rattle.user.specs.Read.{ReadLeft, readMemory, nothing, readStep, readStarted}
 use Rattle.user.specs.Settled.{settledGiven}
-use Rattle.kozbrax.specs.User.{markOf, keptOf, updateBytes, writeBytes, readBytes, callAfter, askedOf, Begun, updateBegun, readBegun, WriteBegun, writeBegun, settledAnswer}
+use Rattle.kozbrax.specs.User.{markOf, keptOf, updateBytes, writeBytes, readBytes, callAfter, askedOf, updateBegun, readBegun, writeBegun, settledAnswer}
 use Rattle.kozbrax.specs.declared.using.Asked.{Asked}
 use Rattle.kozbrax.specs.declared.using.SettledAnswer.{SettledAnswer}
 use Rattle.kozbrax.proofs.Narrowed.{narrowed, settled-unfit, update-start-unfit, write-start-unfit, read-start-unfit}

@@ -6,5 +6,6 @@ mod label;
 mod numbers;
 mod serving;
 mod signature;
+mod taking;
 mod user_state;
 mod using;

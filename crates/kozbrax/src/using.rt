@@ -33,7 +33,7 @@ pub struct SettledAnswer {
 }
 
 // What a step's result is to C.
-fn result(s: Step, f: Found) -> Asked
+pub fn result(s: Step, f: Found) -> Asked
     ensures { λ r. ⌜ r ≡ askedOf s f ⌝ }
 {
     Asked {
@@ -48,7 +48,7 @@ fn result(s: Step, f: Found) -> Asked
 }
 
 // What a step's result is to C, where nothing is read.
-fn plain_result(s: Step) -> Asked
+pub fn plain_result(s: Step) -> Asked
     ensures { λ r. ⌜ r ≡ askedOf s nothing ⌝ }
 {
     let none = Found {

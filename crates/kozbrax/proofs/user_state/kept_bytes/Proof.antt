@@ -2,74 +2,52 @@ use Rattle.kozbrax.proofs.States.{kept-laid}
 use borrow.Author.Needs.{needs}
 use Rattle.kozbrax.proofs.user_state.kept_bytes.Statement.{statement}
 use Rattle.kozbrax.proofs.user_state.kept_bytes.Tie as tie
-use Rattle.kozbrax.proofs.user_state.kept_bytes.Reads as reads
-use Rattle.kozbrax.proofs.user_state.kept_bytes.Lts as lts
-use Rattle.kozbrax.proofs.user_state.mark.Reads as mark-reads
-use Rattle.sha256.proofs.bytes.be4.Reads as be4-reads
-use Rattle.sha256.proofs.bytes.put.Reads as put-reads
-use Rattle.sha256.proofs.bytes.put2.Reads as put2-reads
 
--- src/user_state.rt:58:13
 be4-requires : tie.Need-be4-requires
 be4-requires c κs = search needs
 
--- src/user_state.rt:59:13
 be4-requires-2 : tie.Need-be4-requires-2
 be4-requires-2 c κs = search needs
 
--- src/user_state.rt:60:17
 array-read-t10 : tie.Need-array-read-t10
 array-read-t10 c = search needs
 
--- src/user_state.rt:60:23
 array-read-t13 : tie.Need-array-read-t13
 array-read-t13 c = search needs
 
--- src/user_state.rt:60:29
 array-read-t16 : tie.Need-array-read-t16
 array-read-t16 c = search needs
 
--- src/user_state.rt:60:35
 array-read-t19 : tie.Need-array-read-t19
 array-read-t19 c = search needs
 
--- src/user_state.rt:60:41
 mark-requires : tie.Need-mark-requires
 mark-requires c κs = search needs
 
--- src/user_state.rt:60:57
 mark-requires-2 : tie.Need-mark-requires-2
 mark-requires-2 c κs = search needs
 
--- src/user_state.rt:63:17
 slice-aggregate-put2 : tie.Need-slice-aggregate-put2
 slice-aggregate-put2 c = search needs
 
--- src/user_state.rt:63:30
 slice-aggregate-put2-2 : tie.Need-slice-aggregate-put2-2
 slice-aggregate-put2-2 c = search needs
 
--- src/user_state.rt:63:34
 slice-aggregate-put2-3 : tie.Need-slice-aggregate-put2-3
 slice-aggregate-put2-3 c = search needs
 
--- src/user_state.rt:63:5
 put2-requires : tie.Need-put2-requires
 put2-requires c κs = search needs
 
--- src/user_state.rt:64:16
 slice-aggregate-put : tie.Need-slice-aggregate-put
 slice-aggregate-put c = search needs
 
--- src/user_state.rt:64:30
 slice-aggregate-put-2 : tie.Need-slice-aggregate-put-2
 slice-aggregate-put-2 c = search needs
 
--- src/user_state.rt:64:5
 put-requires : tie.Need-put-requires
 put-requires c κs = search needs
 
--- src/user_state.rt:55:1
 returns : tie.Need-returns
 returns c = kept-laid _ _ _ _ _ _ _ (search needs) (c .before .before .before .before .before .before .before .before .before .before .before .before .before .be4 .ensures) (c .before .before .before .before .before .before .before .before .before .before .before .before .be42 .ensures) (c .before .before .before .before .before .before .before .before .before .before .before .mark .ensures) (c .before .before .before .before .before .before .before .before .before .before .mark2 .ensures) (c .before .before .before .before .before .put2 .ensures) (c .before .put .ensures)
 

@@ -2,23 +2,16 @@ use Rattle.kozbrax.proofs.States.{call-written, call-left}
 use borrow.Author.Needs.{needs}
 use Rattle.kozbrax.proofs.user_state.lay.Statement.{statement}
 use Rattle.kozbrax.proofs.user_state.lay.Tie as tie
-use Rattle.kozbrax.proofs.user_state.lay.Reads as reads
-use Rattle.kozbrax.proofs.user_state.lay.Lts as lts
-use Rattle.sha256.proofs.bytes.put.Reads as put-reads
 
--- src/user_state.rt:83:9
 put-requires : tie.Need-put-requires
 put-requires c κs = search needs
 
--- src/user_state.rt:79:1
 same-length : tie.Need-same-length
 same-length c = search needs
 
--- src/user_state.rt:79:1
 returns : tie.Need-returns
 returns c = call-written _ _ _ _ (c .before .before .before .before .if1 .taken) (c .before .before .put .ensures)
 
--- src/user_state.rt:79:1
 returns-2 : tie.Need-returns-2
 returns-2 c = call-left _ _ _ (c .if1 .left)
 

@@ -2,19 +2,13 @@ use Rattle.kozbrax.proofs.States.{kept-written, kept-left}
 use borrow.Author.Needs.{needs}
 use Rattle.kozbrax.proofs.user_state.lay_kept.Statement.{statement}
 use Rattle.kozbrax.proofs.user_state.lay_kept.Tie as tie
-use Rattle.kozbrax.proofs.user_state.lay_kept.Reads as reads
-use Rattle.kozbrax.proofs.user_state.lay_kept.Lts as lts
-use Rattle.kozbrax.proofs.user_state.kept_bytes.Reads as kept-bytes-reads
 
--- src/user_state.rt:72:9
 kept-bytes-requires : tie.Need-kept-bytes-requires
 kept-bytes-requires c κs = search needs
 
--- src/user_state.rt:69:1
 returns : tie.Need-returns
 returns c = kept-written _ _ _ _ (c .if1 .taken) (c .before .kept-bytes .ensures)
 
--- src/user_state.rt:69:1
 returns-2 : tie.Need-returns-2
 returns-2 c = kept-left _ _ _ (c .if1 .left)
 

@@ -1,14 +1,10 @@
 use Rattle.kozbrax.proofs.States.{mark-yes, mark-no}
 use Rattle.kozbrax.proofs.user_state.mark.Statement.{statement}
 use Rattle.kozbrax.proofs.user_state.mark.Tie as tie
-use Rattle.kozbrax.proofs.user_state.mark.Reads as reads
-use Rattle.kozbrax.proofs.user_state.mark.Lts as lts
 
--- src/user_state.rt:20:9
 returns : tie.Need-returns
 returns c = mark-yes _ (c .if1 .taken)
 
--- src/user_state.rt:16:1
 returns-2 : tie.Need-returns-2
 returns-2 c = mark-no _ (c .if1 .left)
 

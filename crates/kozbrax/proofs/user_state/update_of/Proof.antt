@@ -2,53 +2,37 @@ use Rattle.kozbrax.proofs.States.{update-read}
 use borrow.Author.Needs.{needs}
 use Rattle.kozbrax.proofs.user_state.update_of.Statement.{statement}
 use Rattle.kozbrax.proofs.user_state.update_of.Tie as tie
-use Rattle.kozbrax.proofs.user_state.update_of.Reads as reads
-use Rattle.kozbrax.proofs.user_state.update_of.Lts as lts
-use Rattle.sha256.proofs.bytes.from.Reads as from-reads
-use Rattle.sha256.proofs.bytes.u32_at.Reads as u32-at-reads
-use Rattle.tree.proofs.digest.piece.Reads as piece-reads
 
--- src/user_state.rt:91:34
 slice-aggregate-u32-at : tie.Need-slice-aggregate-u32-at
 slice-aggregate-u32-at c = search needs
 
--- src/user_state.rt:91:9
 u32-at-requires : tie.Need-u32-at-requires
 u32-at-requires c κs = search needs
 
--- src/user_state.rt:92:31
 slice-aggregate-u32-at-2 : tie.Need-slice-aggregate-u32-at-2
 slice-aggregate-u32-at-2 c = search needs
 
--- src/user_state.rt:92:9
 u32-at-requires-2 : tie.Need-u32-at-requires-2
 u32-at-requires-2 c κs = search needs
 
--- src/user_state.rt:93:34
 slice-aggregate-u32-at-3 : tie.Need-slice-aggregate-u32-at-3
 slice-aggregate-u32-at-3 c = search needs
 
--- src/user_state.rt:93:9
 u32-at-requires-3 : tie.Need-u32-at-requires-3
 u32-at-requires-3 c κs = search needs
 
--- src/user_state.rt:94:44
 slice-aggregate-from : tie.Need-slice-aggregate-from
 slice-aggregate-from c = search needs
 
--- src/user_state.rt:94:32
 from-requires : tie.Need-from-requires
 from-requires c κs = search needs
 
--- src/user_state.rt:94:9
 piece-requires : tie.Need-piece-requires
 piece-requires c κs = search needs
 
--- src/user_state.rt:96:16
 array-read-t18 : tie.Need-array-read-t18
 array-read-t18 c = search needs
 
--- src/user_state.rt:88:1
 returns : tie.Need-returns
 returns c = update-read _ _ _ _ _ _ (search needs) (c .before .before .before .before .before .before .before .u32-at .ensures) (c .before .before .before .before .before .u32-at2 .ensures) (c .before .before .before .u32-at3 .ensures) (c .before .from .ensures) (c .piece .ensures)
 

@@ -2,44 +2,28 @@ use Rattle.kozbrax.proofs.UserCalls.{write-begun}
 use borrow.Author.Needs.{needs}
 use Rattle.kozbrax.proofs.using.kozbrax_write_start.Statement.{statement}
 use Rattle.kozbrax.proofs.using.kozbrax_write_start.Tie as tie
-use Rattle.kozbrax.proofs.using.kozbrax_write_start.Reads as reads
-use Rattle.kozbrax.proofs.using.kozbrax_write_start.Lts as lts
-use Rattle.kozbrax.proofs.numbers.narrow.Reads as narrow-reads
-use Rattle.kozbrax.proofs.numbers.narrow_user.Reads as narrow-user-reads
-use Rattle.kozbrax.proofs.user_state.kept_of.Reads as kept-of-reads
-use Rattle.kozbrax.proofs.user_state.lay_write.Reads as lay-write-reads
-use Rattle.kozbrax.proofs.using.plain_result.Reads as plain-result-reads
-use Rattle.user.proofs.call.Write.start.Reads as start-reads
 
--- src/using.rt:111:9
 narrow-requires : tie.Need-narrow-requires
 narrow-requires c κs = search needs
 
--- src/using.rt:112:9
 narrow-user-requires : tie.Need-narrow-user-requires
 narrow-user-requires c κs = search needs
 
--- src/using.rt:115:9
 kept-of-requires : tie.Need-kept-of-requires
 kept-of-requires c κs = search needs
 
--- src/using.rt:110:9
 start-requires : tie.Need-start-requires
 start-requires c κs = search needs
 
--- src/using.rt:124:5
 lay-write-requires : tie.Need-lay-write-requires
 lay-write-requires c κs = search needs
 
--- src/using.rt:125:5
 plain-result-requires : tie.Need-plain-result-requires
 plain-result-requires c κs = search needs
 
--- src/using.rt:90:1
 same-length : tie.Need-same-length
 same-length c = search needs
 
--- src/using.rt:90:1
 returns : tie.Need-returns
 returns c = write-begun _ _ _ _ _ _ _ _ (c .before .before .before .before .before .before .before .before .before .before .before .before .before .before .narrow .ensures) (c .before .before .before .before .before .before .before .before .before .before .before .before .before .narrow-user .ensures) (c .before .before .before .before .before .before .before .before .before .before .kept-of .ensures) _ _ _ _ _ _ _ _ _ _ _ _ (c .before .before .before .before .before .before .start .ensures) (c .before .lay-write .ensures) (c .plain-result .ensures)
 

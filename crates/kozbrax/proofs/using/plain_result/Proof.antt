@@ -2,15 +2,10 @@ use Rattle.user.specs.Read.{nothing}
 use borrow.Author.Needs.{needs}
 use Rattle.kozbrax.proofs.using.plain_result.Statement.{statement}
 use Rattle.kozbrax.proofs.using.plain_result.Tie as tie
-use Rattle.kozbrax.proofs.using.plain_result.Reads as reads
-use Rattle.kozbrax.proofs.using.plain_result.Lts as lts
-use Rattle.kozbrax.proofs.using.result.Reads as result-reads
 
--- src/using.rt:55:5
 result-requires : tie.Need-result-requires
 result-requires c κs = search needs
 
--- src/using.rt:48:1
 returns : tie.Need-returns
 unfolding nothing
 returns c = rw (c .result .ensures)

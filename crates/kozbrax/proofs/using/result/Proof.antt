@@ -2,43 +2,31 @@ use Rattle.kozbrax.specs.User.{askedOf}
 use borrow.Author.Needs.{needs}
 use Rattle.kozbrax.proofs.using.result.Statement.{statement}
 use Rattle.kozbrax.proofs.using.result.Tie as tie
-use Rattle.kozbrax.proofs.using.result.Reads as reads
-use Rattle.kozbrax.proofs.using.result.Lts as lts
-use Rattle.kozbrax.proofs.user_state.mark.Reads as mark-reads
 
--- src/using.rt:37:15
 cast-t3 : tie.Need-cast-t3
 cast-t3 c = search needs
 
--- src/using.rt:38:18
 cast-t4 : tie.Need-cast-t4
 cast-t4 c = search needs
 
--- src/using.rt:39:17
 cast-t5 : tie.Need-cast-t5
 cast-t5 c = search needs
 
--- src/using.rt:40:17
 cast-t6 : tie.Need-cast-t6
 cast-t6 c = search needs
 
--- src/using.rt:41:16
 mark-requires : tie.Need-mark-requires
 mark-requires c κs = search needs
 
--- src/using.rt:41:16
 cast-t8 : tie.Need-cast-t8
 cast-t8 c = search needs
 
--- src/using.rt:42:17
 cast-t9 : tie.Need-cast-t9
 cast-t9 c = search needs
 
--- src/using.rt:43:16
 cast-t10 : tie.Need-cast-t10
 cast-t10 c = search needs
 
--- src/using.rt:33:1
 returns : tie.Need-returns
 unfolding askedOf
 returns c = rw (c .before .before .mark .ensures)
