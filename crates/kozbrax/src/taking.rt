@@ -69,7 +69,7 @@ fn write_answer(
     let w = user_state::write_of(*call);
     let log = g.log;
     let k = user_state::kept_of(*kept);
-    let left = w.take(
+    let after = w.take(
         g.servers,
         g.own,
         log,
@@ -85,9 +85,9 @@ fn write_answer(
         held,
         request,
     );
-    let step = left.step;
-    user_state::lay_kept(step.code, left.kept, kept);
-    user_state::lay_write(step.code, left.call, call);
+    let step = after.step;
+    user_state::lay_kept(step.code, after.kept, kept);
+    user_state::lay_write(step.code, after.call, call);
     using::plain_result(step)
 }
 
