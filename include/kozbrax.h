@@ -88,6 +88,79 @@ kozbrax_served kozbrax_server(uint32_t servers, uint32_t own, const uint8_t *log
                               uint8_t *store, size_t store_len, uint64_t used, const uint8_t *request, size_t request_len,
                               uint8_t *answer, size_t answer_len);
 
+/* A user. What it keeps, and the call that goes on, are lent bytes, big-endian, that the caller keeps from call to call:
+
+   kept, 42 bytes, all zero for a new user:
+     version (4 bytes at 0), digest (32 at 4), next signature number (4 at 36), opened (1 at 40), signed (1 at 41); the last two are 1 or 0
+   path (672 bytes) and signature (2,508): of an open write
+   call, 82 bytes; the bytes that a kind does not name keep their contents:
+     kind (1 at 0): 1 Update, 2 Write, 3 Read
+     Update and Write: asked (1 at 1), greatest (4 at 2), least (4 at 6), position (4 at 10), digest (32 at 14)
+     Write as well: opened (1 at 46), asked (1 at 47), randomizer (32 at 48), length (2 at 80)
+     Read: position (4 at 1), asked (1 at 5), length (2 at 6)
+   hashes (1,248 bytes) and held (1,026): the call's memory, with any contents at its start
+
+   log has 16 bytes; users are the users' public keys, 56 bytes each. own is the user's number, from 1. Every function returns 22 where
+   `servers` is not 2 to 16, users_len not 56 to 3,584 in steps of 56, own not a number of the users, or what is kept out of range: the version
+   above 1,048,576, or equal to it with a write open, the signature number above 1,024, opened or signed above 1. */
+
+/* What a start, or an answer taken in, gives: the code; the server's code for 11, else 0; the server to ask and the length of the request in
+   the request buffer, 0 where the call has ended; 1 or 0 for whether it has; and the author and the entry's length of a Read that has ended
+   with 0, else 0. */
+typedef struct {
+  uint32_t code;
+  uint32_t refusal;
+  uint32_t server;
+  uint32_t length;
+  uint32_t ended;
+  uint32_t author;
+  uint32_t entry;
+} kozbrax_asked;
+
+/* Starts an Update. Returns the code: 22; else 21 where request_len is below 2,566; else 18 where a write is open; else 0.
+   Leaves, on 0: the Update in call and its first request in the first bytes of request. Else: everything as it was. */
+kozbrax_asked kozbrax_update_start(uint32_t servers, uint32_t own, const uint8_t *log, const uint8_t *users, size_t users_len,
+                                   const uint8_t *kept, uint8_t *call, uint8_t *request, size_t request_len);
+
+/* Starts a Write of an entry, or resumes the open write of that entry. tree is the key's; randomizer has 32 bytes.
+   Returns the code: 22; else 21 where request_len is below 2,566 or tree_len below 65,504; else 18 where a write of another entry is open;
+   else 19 where the entry has another shape; else 17 where the signature number is 1,024 and no signed write is open; else 0.
+   Leaves, on 0: the Write in call, the entry in the first bytes of held, and the first request. Else: everything as it was. */
+kozbrax_asked kozbrax_write_start(uint32_t servers, uint32_t own, const uint8_t *log, const uint8_t *users, size_t users_len,
+                                  const uint8_t *tree, size_t tree_len, const uint8_t *entry, size_t entry_len,
+                                  const uint8_t *randomizer, const uint8_t *kept, const uint8_t *path, uint8_t *call, uint8_t *held,
+                                  uint8_t *request, size_t request_len);
+
+/* Starts a Read of the entry at a position. Of the entry buffer the length is looked at.
+   Returns the code: 22; else 21 where request_len is below 2,566 or entry_len below 1,024; else 24 where the position is not 1 to the
+   version; else 0.
+   Leaves, on 0: the Read in call and its first request. Else: everything as it was. */
+kozbrax_asked kozbrax_read_start(uint32_t servers, uint32_t own, const uint8_t *log, const uint8_t *users, size_t users_len,
+                                 uint32_t position, const uint8_t *kept, uint8_t *call, uint8_t *request, size_t request_len,
+                                 const uint8_t *entry, size_t entry_len);
+
+/* Takes in an answer of any bytes to the call's last request. id (16 bytes), seed (32) and tree are the key's; only a Write reads them.
+   Returns the code: 0 with the next request, or at the call's end; else a code of document 01's table. A call whose kind is not 1 to 3, or a
+   Write whose opened is above 1, has no request out: 22, else 21 where request_len is below 2,566, else 10.
+   Leaves, on 0: the call's next state in call, what is kept in kept, path and signature, the next request, where there is one, in the first
+   bytes of request, and the entry of a Read that has ended in the first bytes of entry. Else: all of these as they were; hashes and held
+   may have the answer's bytes after 15, 16, 19, 20 and 23. The bytes past the request and past the entry stay as they were. */
+kozbrax_asked kozbrax_take(uint32_t servers, uint32_t own, const uint8_t *log, const uint8_t *users, size_t users_len, const uint8_t *id,
+                           const uint8_t *seed, const uint8_t *tree, size_t tree_len, const uint8_t *answer, size_t answer_len,
+                           uint8_t *kept, uint8_t *path, uint8_t *signature, uint8_t *call, uint8_t *hashes, uint8_t *held,
+                           uint8_t *request, size_t request_len, uint8_t *entry, size_t entry_len);
+
+/* Whether an own operation is settled: the code, and 1 or 0, 0 where the code is not 0. */
+typedef struct {
+  uint32_t code;
+  uint32_t settled;
+} kozbrax_settled_answer;
+
+/* Whether the user's own operation at a position is settled. Returns the code: 22; else 24 where the position is not 1 to the version; else
+   0. Writes nothing. */
+kozbrax_settled_answer kozbrax_settled(uint32_t servers, uint32_t own, const uint8_t *log, const uint8_t *users, size_t users_len,
+                                       const uint8_t *kept, uint32_t position);
+
 #ifdef __cplusplus
 }
 #endif

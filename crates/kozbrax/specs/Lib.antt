@@ -3,3 +3,4 @@ pub mod Hash
 pub mod Tree
 pub mod Lms
 pub mod Server
+pub mod User

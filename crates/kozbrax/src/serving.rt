@@ -1,7 +1,8 @@
 // The server's call, its head in 39 lent bytes.
 ghost use mathlib.Core.Path.{_≡_};
-ghost use Prim.Native.Nat.{_≤_, min};
+ghost use Prim.Native.Nat.{_≤_};
 ghost use Rattle.kozbrax.specs.Server.{headBytes, headOf, resultOf, serverLeft};
+use super::numbers;
 use server::Head;
 use server::Out;
 use sha256::bytes;
@@ -43,16 +44,6 @@ fn head_bytes(h: Head) -> [u8; 39]
     out
 }
 
-// A number as a byte, 255 where it does not fit one: no N and no server's number, which are at most 16.
-fn narrow(n: u32) -> u8
-    ensures { λ r. ⌜ r ≡ min n 255 ⌝ }
-{
-    if n < 255 {
-        return n as u8;
-    }
-    255
-}
-
 // What a call's result is to C.
 fn result(out: Out) -> Served
     requires { ⌜ out .answered ≤ 2552 ⌝ }
@@ -85,8 +76,8 @@ pub extern "C" fn kozbrax_server(
 {
     let before = head_of(*head);
     let out = server::serve(
-        narrow(servers),
-        narrow(own),
+        numbers::narrow(servers),
+        numbers::narrow(own),
         *log,
         users,
         before,
