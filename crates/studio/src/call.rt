@@ -144,6 +144,28 @@ fn read_turn(
     )
 }
 
+// The start of a Read.
+fn read_start(
+    g: Group,
+    own: u16,
+    kept: Kept,
+    position: u32,
+    users: &[u8],
+    request: &mut [u8; 2566],
+    entry: &[u8; 1024],
+) -> ReadStep {
+    Read::start(
+        g.servers,
+        own,
+        group::LOG,
+        users,
+        kept,
+        position,
+        request,
+        entry,
+    )
+}
+
 // A Read of a position, to its end. The entry is in its buffer where the code is 0.
 pub fn read(
     g: Group,
@@ -157,16 +179,7 @@ pub fn read(
     let mut hashes = [0u8; 1248];
     let mut held = [0u8; 1026];
     let mut request = [0u8; 2566];
-    let mut s = Read::start(
-        g.servers,
-        own,
-        group::LOG,
-        users,
-        kept,
-        position,
-        &mut request,
-        entry,
-    );
+    let mut s = read_start(g, own, kept, position, users, &mut request, entry);
     let mut answers: usize = 0;
     let mut turns: usize = 0;
     while turns < 99 {
@@ -287,13 +300,86 @@ fn write_on(
         now = next;
         turns += 1;
     }
-    let step = now.step;
-    let kept = now.kept;
+    write_done(now, answers)
+}
+
+fn write_done(s: WriteStep, answers: usize) -> Done {
+    let step = s.step;
+    let kept = s.kept;
     Done {
         step,
         kept,
         answers,
     }
+}
+
+// The start of a Write.
+fn write_start(
+    g: Group,
+    own: u16,
+    kept: Kept,
+    users: &[u8],
+    tree: &[u8],
+    entry: &[u8],
+    path: &[u8; 672],
+    held: &mut [u8; 1026],
+    request: &mut [u8; 2566],
+) -> WriteStep {
+    let a = (own % 256) as u8;
+    Write::start(
+        g.servers,
+        own,
+        group::LOG,
+        users,
+        kept,
+        tree,
+        entry,
+        [a; 32],
+        path,
+        held,
+        request,
+    )
+}
+
+// A Write from its start on, for at most `most` answers.
+fn write_from(
+    g: Group,
+    own: u16,
+    kept: Kept,
+    entry: &[u8],
+    most: u32,
+    servers: &mut [u8],
+    users: &[u8],
+    tree: &[u8],
+    path: &mut [u8; 672],
+    signature: &mut [u8; 2508],
+) -> Done {
+    let mut held = [0u8; 1026];
+    let mut request = [0u8; 2566];
+    let s = write_start(
+        g,
+        own,
+        kept,
+        users,
+        tree,
+        entry,
+        path,
+        &mut held,
+        &mut request,
+    );
+    write_on(
+        s,
+        most,
+        g,
+        own,
+        servers,
+        users,
+        tree,
+        path,
+        signature,
+        &held,
+        &mut request,
+    )
 }
 
 // A Write of an entry, or of the open one that it resumes, for at most `most` answers. What is kept is in the memory then.
@@ -307,39 +393,22 @@ pub fn write(
     users: &[u8],
     trees: &[u8],
 ) -> Done {
-    let a = (own % 256) as u8;
     let tree = bytes::from(trees, 65504 * group::before(own));
     let mut path = [0u8; 672];
     let mut signature = [0u8; 2508];
-    let mut held = [0u8; 1026];
-    let mut request = [0u8; 2566];
     memory::load_open(own, memory, &mut path, &mut signature);
     let kept = memory::kept_of(own, memory);
-    let first = Write::start(
-        g.servers,
-        own,
-        group::LOG,
-        users,
-        kept,
-        tree,
-        entry,
-        [a; 32],
-        &path,
-        &mut held,
-        &mut request,
-    );
-    let done = write_on(
-        first,
-        most,
+    let done = write_from(
         g,
         own,
+        kept,
+        entry,
+        most,
         servers,
         users,
         tree,
         &mut path,
         &mut signature,
-        &held,
-        &mut request,
     );
     memory::keep(own, done.kept, memory);
     memory::keep_open(own, &path, &signature, memory);

@@ -15,11 +15,8 @@ abbrev μ-loop : tie.MeasureT-loop
 μ-loop g own kept position servers₀ users entry₀ hashes₀ held₀ request₀ s₀ answers₀ turns₀ servers entry hashes held request s answers turns =
     99 - turns
 
-slice-aggregate-start : tie.Need-slice-aggregate-start Inv-loop μ-loop
-slice-aggregate-start c = search needs
-
-start-requires : tie.Need-start-requires Inv-loop μ-loop
-start-requires c κs = search needs
+read-start-requires : tie.Need-read-start-requires Inv-loop μ-loop
+read-start-requires c κs = search needs
 
 loop-holds : tie.Need-loop-holds Inv-loop μ-loop
 loop-holds c = search needs
@@ -57,8 +54,7 @@ read-spec =
     (tie.spec
     Inv-loop
     μ-loop
-    slice-aggregate-start
-    start-requires
+    read-start-requires
     loop-holds
     waits-requires
     add-answers

@@ -39,6 +39,9 @@ loop-less c = search needs
 loop-again : tie.Need-loop-again Inv-loop μ-loop
 loop-again c = (omega (arith, c .before .before .before .before .before .before .before .before .before .loop-test .taken), (omega (arith, c .before .before .before .before .before .before .before .before .waits .ensures, c .before .before .before .before .before .before .before .before .before .before .loop .inv .1 .0), c .before .before .write-turn .kept .1 .1 .1 .0 ∙ c .before .before .before .before .before .before .before .before .before .before .loop .inv .1 .1))
 
+write-done-requires : tie.Need-write-done-requires Inv-loop μ-loop
+write-done-requires c κs = search needs
+
 same-length : tie.Need-same-length Inv-loop μ-loop
 same-length c = search needs
 
@@ -59,5 +62,6 @@ write-on-spec =
     add-turns
     loop-less
     loop-again
+    write-done-requires
     same-length
     returns)
