@@ -1,6 +1,8 @@
 // Document 01's table of paths: for each position its first label, the owners of its leaf and of its digest, and its wait.
 // The table is written in pieces of 65,536 bytes.
 use libc::STDOUT_FILENO;
+use lines::read_digits;
+use lines::skip_blanks;
 use sha256::bytes;
 use tree::label;
 
@@ -8,65 +10,6 @@ use tree::label;
 enum Input {
     Numbers(u32, u32),
     Malformed,
-}
-
-// A number read from a text: its value, at most 9,999,999 (a larger one counts as that), whether a digit was there, and what is
-// left is at `next`.
-struct Digits {
-    value: u32,
-    found: bool,
-    next: usize,
-}
-
-// The first place from `at` on that is no blank.
-fn skip_blanks(text: &[u8], at: usize) -> usize {
-    let mut i = at;
-    while i < text.len() {
-        let b = text[i];
-        if b != b' ' {
-            if b != b'\n' {
-                if b != b'\r' {
-                    if b != b'\t' {
-                        return i;
-                    }
-                }
-            }
-        }
-        i += 1;
-    }
-    i
-}
-
-// The decimal number from `at` on, up to the first byte that is no digit.
-fn read_digits(text: &[u8], at: usize) -> Digits {
-    let mut value: u32 = 0;
-    let mut i = at;
-    let mut found = false;
-    while i < text.len() {
-        let b = text[i];
-        if b < b'0' {
-            break;
-        }
-        if b'9' < b {
-            break;
-        }
-        value = longer(value, b);
-        found = true;
-        i += 1;
-    }
-    Digits {
-        value,
-        found,
-        next: i,
-    }
-}
-
-// A number with one more decimal digit, at most 9,999,999.
-fn longer(value: u32, digit: u8) -> u32 {
-    if 999999 < value {
-        return 9999999;
-    }
-    value * 10 + (digit % 16) as u32 % 10
 }
 
 // The two decimal numbers of a text, with blanks around them and between them.

@@ -2,13 +2,11 @@
 // Each line of data/cases.txt is one call, and data/README.md says what its numbers mean. A line is printed for each: the code,
 // the head (position, level, author, digest), the store's used length and the answer's length after the call, and the SHA-256 of
 // the lent store and of the lent answer buffer. Of each digest the first 8 bytes are printed.
-ghost use Prim.Native.Nat.{_≤_};
-ghost use lib.ListN.{length};
-
 mod call;
 mod row;
 mod user;
 
+use lines::find;
 use sha256::bytes;
 
 fn main() {
@@ -45,19 +43,4 @@ fn rows(text: &[u8], users: &[u8], trees: &[u8]) {
         }
         at = end + 1;
     }
-}
-
-// The first place from i on where s has the byte b, or the length of s where there is none.
-fn find(s: &[u8], i: usize, b: u8) -> usize
-    requires { ⌜ i ≤ length (now s) ⌝ }
-    ensures { λ r. ⌜ (i ≤ r) × (r ≤ length (now (s .entry))) ⌝ }
-{
-    let mut at = i;
-    while at < s.len() {
-        if s[at] == b {
-            return at;
-        }
-        at += 1;
-    }
-    at
 }

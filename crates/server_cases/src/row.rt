@@ -9,7 +9,7 @@ use sha256::bytes;
 
 // Makes the call that a line says, and prints the line's name and what the call gave.
 pub fn run(line: &[u8], world: &mut [u8], users: &[u8], trees: &[u8]) {
-    let n = crate::find(line, 0, b':');
+    let n = lines::find(line, 0, b':');
     let f = numbers(bytes::from(bytes::from(line, n), 2));
     let at = (f[0] % 8) as usize * 8192;
     let mut place = [0u8; 8192];

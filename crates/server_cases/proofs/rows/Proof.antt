@@ -1,3 +1,4 @@
+use native.Mathlib.Omega.{arith}
 -- `rows` is safe and ends. What is left of the text falls with each line.
 use borrow.Author.Needs.{needs}
 use Prim.Native.Nat.{_≤_, _-_}
@@ -30,7 +31,7 @@ part-run-start : tie.Need-part-run-start Inv-loop μ-loop
 part-run-start c = search needs
 
 part-run-end : tie.Need-part-run-end Inv-loop μ-loop
-part-run-end c = search needs
+part-run-end c = omega (arith, c .find .ensures .0, c .find .ensures .1 (c .before .before .loop .inv))
 
 run-requires : tie.Need-run-requires Inv-loop μ-loop
 run-requires c κs = search needs
@@ -39,13 +40,13 @@ returns : tie.Need-returns Inv-loop μ-loop
 returns c = search needs
 
 add-at : tie.Need-add-at Inv-loop μ-loop
-add-at c = search needs
+add-at c = omega (arith, c .if1 .left, c .before .before .before .before .before .before .find .ensures .0, c .before .before .before .before .before .before .find .ensures .1 (c .before .before .before .before .before .before .before .before .loop .inv))
 
 loop-less : tie.Need-loop-less Inv-loop μ-loop
-loop-less c = search needs
+loop-less c = omega (arith, c .before .before .before .before .before .before .before .loop-test .taken, c .before .before .before .before .before .before .find .ensures .0, c .before .before .before .before .before .before .find .ensures .1 (c .before .before .before .before .before .before .before .before .loop .inv))
 
 loop-again : tie.Need-loop-again Inv-loop μ-loop
-loop-again c = search needs
+loop-again c = omega (arith, c .if1 .left, c .before .before .before .before .before .before .find .ensures .0, c .before .before .before .before .before .before .find .ensures .1 (c .before .before .before .before .before .before .before .before .loop .inv))
 
 returns-2 : tie.Need-returns-2 Inv-loop μ-loop
 returns-2 c = search needs

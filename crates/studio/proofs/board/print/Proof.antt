@@ -1,0 +1,65 @@
+-- `print` is safe and ends: it has a turn for each entry.
+use borrow.Author.Needs.{needs}
+use mathlib.Core.Path.{_≡_, _∙_}
+use Prim.Native.Nat.{_≤_, _-_}
+use native.Mathlib.Omega.{arith}
+use lib.ListN.{length}
+use Rattle.studio.proofs.board.print.Statement.{statement}
+use Rattle.studio.proofs.board.print.Tie as tie
+
+abbrev Inv-loop : tie.InvT-loop
+Inv-loop g own n memory servers₀ users standing k₀ servers k = (k ≤ n) × (length servers ≡ length servers₀)
+
+abbrev μ-loop : tie.MeasureT-loop
+μ-loop g own n memory servers₀ users standing k₀ servers k = n - k
+
+loop-holds : tie.Need-loop-holds Inv-loop μ-loop
+loop-holds c = search needs
+
+cast-p : tie.Need-cast-p Inv-loop μ-loop
+cast-p c = search needs
+
+add-p : tie.Need-add-p Inv-loop μ-loop
+add-p c = search needs
+
+mul-print-marked : tie.Need-mul-print-marked Inv-loop μ-loop
+mul-print-marked c = search needs
+
+shared-slice-read-print-marked : tie.Need-shared-slice-read-print-marked Inv-loop μ-loop
+shared-slice-read-print-marked c = search needs
+
+print-marked-requires : tie.Need-print-marked-requires Inv-loop μ-loop
+print-marked-requires c κs = search needs
+
+add-k : tie.Need-add-k Inv-loop μ-loop
+add-k c = search needs
+
+loop-less : tie.Need-loop-less Inv-loop μ-loop
+loop-less c = search needs
+
+loop-again : tie.Need-loop-again Inv-loop μ-loop
+loop-again c = (omega (arith, c .before .before .before .before .before .loop-test .taken), c .before .before .print-marked .kept .1 .1 .1 .1 .1 .0 ∙ c .before .before .before .before .before .before .loop .inv .1)
+
+same-length : tie.Need-same-length Inv-loop μ-loop
+same-length c = c .before .loop .inv .1
+
+returns : tie.Need-returns Inv-loop μ-loop
+returns c = search needs
+
+pub print-spec : {M : Type 1} → statement M
+print-spec =
+    tie.close
+    (tie.spec
+    Inv-loop
+    μ-loop
+    loop-holds
+    cast-p
+    add-p
+    mul-print-marked
+    shared-slice-read-print-marked
+    print-marked-requires
+    add-k
+    loop-less
+    loop-again
+    same-length
+    returns)

@@ -1,0 +1,84 @@
+-- `lines_of` is safe and ends. What is left of the text falls with each line, and no more lines are counted than bytes.
+use borrow.Author.Needs.{needs}
+use Prim.Native.Nat.{_≤_, _-_}
+use native.Mathlib.Omega.{arith}
+use lib.ListN.{length}
+use Rattle.studio.proofs.lines_of.Statement.{statement}
+use Rattle.studio.proofs.lines_of.Tie as tie
+
+abbrev Inv-loop : tie.InvT-loop
+Inv-loop text users trees servers₀ memory₀ group₀ number₀ at₀ servers memory group number at = (at ≤ length text) × (number ≤ at)
+
+abbrev μ-loop : tie.MeasureT-loop
+μ-loop text users trees servers₀ memory₀ group₀ number₀ at₀ servers memory group number at = length text - at
+
+zeros-requires : tie.Need-zeros-requires Inv-loop μ-loop
+zeros-requires c κs = search needs
+
+slice-aggregate-servers : tie.Need-slice-aggregate-servers Inv-loop μ-loop
+slice-aggregate-servers c = search needs
+
+slice-aggregate-memory : tie.Need-slice-aggregate-memory Inv-loop μ-loop
+slice-aggregate-memory c = search needs
+
+fresh-requires : tie.Need-fresh-requires Inv-loop μ-loop
+fresh-requires c κs = search needs
+
+loop-holds : tie.Need-loop-holds Inv-loop μ-loop
+loop-holds c = search needs
+
+find-requires : tie.Need-find-requires Inv-loop μ-loop
+find-requires c κs = search needs
+
+add-number : tie.Need-add-number Inv-loop μ-loop
+add-number c = search needs
+
+sub-line : tie.Need-sub-line Inv-loop μ-loop
+sub-line c = omega (arith, c .find .ensures .0, c .find .ensures .1 (c .before .before .loop .inv .0))
+
+part-line-start : tie.Need-part-line-start Inv-loop μ-loop
+part-line-start c = omega (arith, c .find .ensures .0, c .find .ensures .1 (c .before .before .loop .inv .0))
+
+part-line-end : tie.Need-part-line-end Inv-loop μ-loop
+part-line-end c = omega (arith, c .find .ensures .0, c .find .ensures .1 (c .before .before .loop .inv .0))
+
+line-requires : tie.Need-line-requires Inv-loop μ-loop
+line-requires c κs = search needs
+
+returns : tie.Need-returns Inv-loop μ-loop
+returns c = search needs
+
+add-at : tie.Need-add-at Inv-loop μ-loop
+add-at c = omega (arith, c .if1 .left, c .before .before .before .before .before .before .before .before .before .find .ensures .0, c .before .before .before .before .before .before .before .before .before .find .ensures .1 (c .before .before .before .before .before .before .before .before .before .before .before .loop .inv .0))
+
+loop-less : tie.Need-loop-less Inv-loop μ-loop
+loop-less c = omega (arith, c .before .before .before .before .before .before .before .before .before .before .loop-test .taken, c .before .before .before .before .before .before .before .before .before .find .ensures .0, c .before .before .before .before .before .before .before .before .before .find .ensures .1 (c .before .before .before .before .before .before .before .before .before .before .before .loop .inv .0))
+
+loop-again : tie.Need-loop-again Inv-loop μ-loop
+loop-again c = (omega (arith, c .if1 .left, c .before .before .before .before .before .before .before .before .before .find .ensures .0, c .before .before .before .before .before .before .before .before .before .find .ensures .1 (c .before .before .before .before .before .before .before .before .before .before .before .loop .inv .0)), omega (arith, c .before .before .before .before .before .before .before .before .before .before .before .loop .inv .1, c .before .before .before .before .before .before .before .before .before .find .ensures .0, c .before .before .before .before .before .before .before .before .before .find .ensures .1 (c .before .before .before .before .before .before .before .before .before .before .before .loop .inv .0)))
+
+returns-2 : tie.Need-returns-2 Inv-loop μ-loop
+returns-2 c = search needs
+
+pub lines-of-spec : {M : Type 1} → statement M
+lines-of-spec =
+    tie.close
+    (tie.spec
+    Inv-loop
+    μ-loop
+    zeros-requires
+    slice-aggregate-servers
+    slice-aggregate-memory
+    fresh-requires
+    loop-holds
+    find-requires
+    add-number
+    sub-line
+    part-line-start
+    part-line-end
+    line-requires
+    returns
+    add-at
+    loop-less
+    loop-again
+    returns-2)

@@ -1,0 +1,214 @@
+// A line of the script: a word, one or two numbers, and a text that takes the rest of the line.
+use lines::Digits;
+use sha256::bytes;
+
+pub enum Word {
+    Servers,
+    Write,
+    Strike,
+    Read,
+    Update,
+    Board,
+    Settled,
+    Cut,
+    Resume,
+    Fork,
+    Unknown,
+}
+
+// What is wrong with a line: its word, a number that is missing or out of range, a text that is missing or too long, or that the
+// line has more than its command takes.
+pub enum Fault {
+    Nothing,
+    UnknownWord,
+    FirstNumber,
+    SecondNumber,
+    TextLength,
+    TooMuch,
+}
+
+// A command: its word, its numbers, and the place on the line where its text begins.
+pub struct Command {
+    pub word: Word,
+    pub first: u32,
+    pub second: u32,
+    pub text: usize,
+    pub fault: Fault,
+}
+
+// Whether a line says nothing: it is empty or a comment.
+pub fn is_idle(line: &[u8]) -> bool {
+    let start = lines::skip_blanks(line, 0);
+    if line.len() <= start {
+        return true;
+    }
+    bytes::byte_at(line, start) == b'#'
+}
+
+// The command of a line, for a log of so many servers.
+pub fn parse(line: &[u8], servers: u8) -> Command {
+    let start = lines::skip_blanks(line, 0);
+    let end = lines::find(line, start, b' ');
+    let word = word_of(bytes::front(bytes::from(line, start), end - start));
+    let first = number(line, end);
+    let second = number(line, first.next);
+    let mut next = first.next;
+    if takes_second(word) {
+        next = second.next;
+    }
+    let text = lines::skip_blanks(line, next);
+    let left = bytes::from(line, text);
+    let fault = fault_of(word, servers, first, second, left.len());
+    Command {
+        word,
+        first: first.value,
+        second: second.value,
+        text,
+        fault,
+    }
+}
+
+fn word_of(s: &[u8]) -> Word {
+    if bytes::same(s, b"servers") {
+        return Word::Servers;
+    }
+    if bytes::same(s, b"write") {
+        return Word::Write;
+    }
+    if bytes::same(s, b"strike") {
+        return Word::Strike;
+    }
+    if bytes::same(s, b"read") {
+        return Word::Read;
+    }
+    if bytes::same(s, b"update") {
+        return Word::Update;
+    }
+    if bytes::same(s, b"board") {
+        return Word::Board;
+    }
+    if bytes::same(s, b"settled") {
+        return Word::Settled;
+    }
+    if bytes::same(s, b"cut") {
+        return Word::Cut;
+    }
+    if bytes::same(s, b"resume") {
+        return Word::Resume;
+    }
+    if bytes::same(s, b"fork") {
+        return Word::Fork;
+    }
+    Word::Unknown
+}
+
+// The number after the blanks at a place. It counts as missing where neither a blank nor the line's end follows it.
+fn number(line: &[u8], at: usize) -> Digits {
+    let d = lines::read_digits(line, lines::skip_blanks(line, at));
+    let next = d.next;
+    if line.len() <= next {
+        return d;
+    }
+    if next < lines::skip_blanks(line, next) {
+        return d;
+    }
+    Digits {
+        value: 0,
+        found: false,
+        next,
+    }
+}
+
+fn fault_of(word: Word, servers: u8, first: Digits, second: Digits, left: usize) -> Fault {
+    if is_unknown(word) {
+        return Fault::UnknownWord;
+    }
+    if !is_within(first, first_least(word), first_most(word, servers)) {
+        return Fault::FirstNumber;
+    }
+    if takes_second(word) {
+        if !is_within(second, second_least(word), second_most(word)) {
+            return Fault::SecondNumber;
+        }
+    }
+    if takes_text(word) {
+        if left == 0 {
+            return Fault::TextLength;
+        }
+        if 1023 < left {
+            return Fault::TextLength;
+        }
+        return Fault::Nothing;
+    }
+    if 0 < left {
+        return Fault::TooMuch;
+    }
+    Fault::Nothing
+}
+
+fn is_unknown(word: Word) -> bool {
+    match word {
+        Word::Unknown => true,
+        _ => false,
+    }
+}
+
+fn is_within(d: Digits, least: u32, most: u32) -> bool {
+    if !d.found {
+        return false;
+    }
+    if d.value < least {
+        return false;
+    }
+    d.value <= most
+}
+
+// The least and the greatest first number: how many servers, a server, or a user.
+pub fn first_least(word: Word) -> u32 {
+    match word {
+        Word::Servers => 2,
+        _ => 1,
+    }
+}
+
+pub fn first_most(word: Word, servers: u8) -> u32 {
+    match word {
+        Word::Servers => 16,
+        Word::Fork => servers as u32,
+        _ => 3,
+    }
+}
+
+fn takes_second(word: Word) -> bool {
+    match word {
+        Word::Strike => true,
+        Word::Read => true,
+        Word::Settled => true,
+        Word::Cut => true,
+        _ => false,
+    }
+}
+
+// The least and the greatest second number: a position, or after how many answers a write is cut.
+pub fn second_least(word: Word) -> u32 {
+    match word {
+        Word::Cut => 0,
+        _ => 1,
+    }
+}
+
+pub fn second_most(word: Word) -> u32 {
+    match word {
+        Word::Cut => 98,
+        _ => 1048576,
+    }
+}
+
+fn takes_text(word: Word) -> bool {
+    match word {
+        Word::Write => true,
+        Word::Cut => true,
+        Word::Resume => true,
+        _ => false,
+    }
+}
