@@ -2,34 +2,22 @@
 // Each line of data/cases.txt is one call, and data/README.md says what its numbers mean. A line is printed for each: the code,
 // the head (position, level, author, digest), the store's used length and the answer's length after the call, and the SHA-256 of
 // the lent store and of the lent answer buffer. Of each digest the first 8 bytes are printed.
-ghost use Prim.Native.Nat.{_≤_};
-ghost use lib.ListN.{length};
-
 mod call;
 mod row;
 mod user;
 
+use cases::file;
+use cases::key;
+use cases::line;
 use sha256::bytes;
 
 fn main() {
     let mut trees = [0u8; 131008];
     let mut users = [0u8; 3640];
-    user::keys(&mut trees, &mut users);
+    key::keys(&mut trees, &mut users);
     let mut text = io::large_buffer();
-    let n = read(&mut text);
+    let n = file::read(&mut text);
     rows(bytes::front(&text, n), &users, &trees);
-}
-
-// Reads the file of cases to the start of text, and answers how many bytes it has.
-fn read(text: &mut [u8]) -> usize {
-    let fd = os::open_read(b"cases.txt");
-    if fd < 0 {
-        os::fail(b"cases.txt");
-        return 0;
-    }
-    let n = io::read_full(fd, text);
-    libc::close(fd);
-    n
 }
 
 // The calls of all lines, one after the other, on eight servers that begin with nothing reserved and nothing stored.
@@ -38,26 +26,11 @@ fn rows(text: &[u8], users: &[u8], trees: &[u8]) {
     let servers: &mut [u8] = &mut world;
     let mut at = 0;
     while at < text.len() {
-        let end = find(text, at, b'\n');
+        let end = line::find(text, at, b'\n');
         row::run(&text[at..end], servers, users, trees);
         if end == text.len() {
             return;
         }
         at = end + 1;
     }
-}
-
-// The first place from i on where s has the byte b, or the length of s where there is none.
-fn find(s: &[u8], i: usize, b: u8) -> usize
-    requires { ⌜ i ≤ length (now s) ⌝ }
-    ensures { λ r. ⌜ (i ≤ r) × (r ≤ length (now (s .entry))) ⌝ }
-{
-    let mut at = i;
-    while at < s.len() {
-        if s[at] == b {
-            return at;
-        }
-        at += 1;
-    }
-    at
 }

@@ -2,8 +2,8 @@
 use borrow.Author.Needs.{needs}
 use Prim.Native.Nat.{_≤_, _-_}
 use lib.ListN.{length}
-use Rattle.server_cases.proofs.find.Statement.{statement}
-use Rattle.server_cases.proofs.find.Tie as tie
+use Rattle.cases.proofs.line.find.Statement.{statement}
+use Rattle.cases.proofs.line.find.Tie as tie
 
 abbrev Inv-loop : tie.InvT-loop
 Inv-loop s i b at₀ at = (i ≤ at) × (at ≤ length s)
