@@ -4,12 +4,11 @@ ghost use Prim.Native.Nat.{_≤_, _<_};
 ghost use lib.ListN.{length};
 use sha256::bytes;
 
-// The first place from i on where s has the byte b, or the length of s where there is none.
-pub fn find(s: &[u8], i: usize, b: u8) -> usize
-    requires { ⌜ i ≤ length (now s) ⌝ }
-    ensures { λ r. ⌜ (i ≤ r) × (r ≤ length (now (s .entry))) ⌝ }
+// The first place where s has the byte b, or the length of s where there is none.
+pub fn find(s: &[u8], b: u8) -> usize
+    ensures { λ r. ⌜ r ≤ length (now (s .entry)) ⌝ }
 {
-    let mut at = i;
+    let mut at = 0;
     while at < s.len() {
         if s[at] == b {
             return at;

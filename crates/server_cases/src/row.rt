@@ -10,7 +10,7 @@ use sha256::bytes;
 
 // Makes the call that a line says, and prints the line's name and what the call gave.
 pub fn run(text: &[u8], world: &mut [u8], users: &[u8], trees: &[u8]) {
-    let n = line::find(text, 0, b':');
+    let n = line::find(text, b':');
     let f = line::numbers(bytes::from(bytes::from(text, n), 2));
     let at = (f[0] % 8) as usize * 8192;
     let mut place = [0u8; 8192];

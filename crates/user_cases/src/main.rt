@@ -27,13 +27,11 @@ fn rows(text: &[u8], users: &[u8], trees: &[u8]) {
     let mut group = [0u8; 65536];
     let places: &mut [u8] = &mut world;
     let servers: &mut [u8] = &mut group;
-    let mut at = 0;
+    let mut at: usize = 0;
     while at < text.len() {
-        let end = line::find(text, at, b'\n');
-        row::run(&text[at..end], places, servers, users, trees);
-        if end == text.len() {
-            return;
-        }
-        at = end + 1;
+        let rest = bytes::from(text, at);
+        let n = line::find(rest, b'\n');
+        row::run(bytes::front(rest, n), places, servers, users, trees);
+        at += n + 1;
     }
 }

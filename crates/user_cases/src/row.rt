@@ -10,7 +10,7 @@ use sha256::bytes;
 
 // Does what a line says, and prints the line's name and what came of it.
 pub fn run(text: &[u8], world: &mut [u8], servers: &mut [u8], users: &[u8], trees: &[u8]) {
-    let n = line::find(text, 0, b':');
+    let n = line::find(text, b':');
     let f = line::numbers(bytes::from(bytes::from(text, n), 2));
     print::text(bytes::front(text, n));
     let mut place = [0u8; 10240];
