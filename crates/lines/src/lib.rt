@@ -10,11 +10,11 @@ pub struct Digits {
     pub next: usize,
 }
 
-// The first place from i on where s has the byte b, or the end of s where there is none; i where that is past the end.
-pub fn find(s: &[u8], i: usize, b: u8) -> usize
-    ensures { λ r. ⌜ (i ≤ r) × (i ≤ length (now (s .entry)) → r ≤ length (now (s .entry))) ⌝ }
+// The first place where s has the byte b, or the length of s where there is none.
+pub fn find(s: &[u8], b: u8) -> usize
+    ensures { λ r. ⌜ r ≤ length (now (s .entry)) ⌝ }
 {
-    let mut at = i;
+    let mut at = 0;
     while at < s.len() {
         if s[at] == b {
             return at;

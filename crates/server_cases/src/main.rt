@@ -6,41 +6,28 @@ mod call;
 mod row;
 mod user;
 
-use lines::find;
+use cases::file;
+use cases::key;
 use sha256::bytes;
 
 fn main() {
     let mut trees = [0u8; 131008];
     let mut users = [0u8; 3640];
-    user::keys(&mut trees, &mut users);
+    key::keys(&mut trees, &mut users);
     let mut text = io::large_buffer();
-    let n = read(&mut text);
+    let n = file::read(&mut text);
     rows(bytes::front(&text, n), &users, &trees);
-}
-
-// Reads the file of cases to the start of text, and answers how many bytes it has.
-fn read(text: &mut [u8]) -> usize {
-    let fd = os::open_read(b"cases.txt");
-    if fd < 0 {
-        os::fail(b"cases.txt");
-        return 0;
-    }
-    let n = io::read_full(fd, text);
-    libc::close(fd);
-    n
 }
 
 // The calls of all lines, one after the other, on eight servers that begin with nothing reserved and nothing stored.
 fn rows(text: &[u8], users: &[u8], trees: &[u8]) {
     let mut world = io::large_buffer();
     let servers: &mut [u8] = &mut world;
-    let mut at = 0;
+    let mut at: usize = 0;
     while at < text.len() {
-        let end = find(text, at, b'\n');
-        row::run(&text[at..end], servers, users, trees);
-        if end == text.len() {
-            return;
-        }
-        at = end + 1;
+        let rest = bytes::from(text, at);
+        let n = lines::find(rest, b'\n');
+        row::run(bytes::front(rest, n), servers, users, trees);
+        at += n + 1;
     }
 }

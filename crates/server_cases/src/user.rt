@@ -1,50 +1,8 @@
-// What users 1 and 2 send: their keys, entries, digests and requests.
-ghost use Prim.Native.Nat.{_<_};
+// What users 1 and 2 send: their entries, digests and requests.
+use cases::key;
 use sha256::bytes;
 use tree::digest;
 use tree::message;
-
-pub const LOG: [u8; 16] = [
-    b'f',
-    b'i',
-    b'r',
-    b'i',
-    b'n',
-    b'g',
-    b' ',
-    b'l',
-    b'o',
-    b'g',
-    b' ',
-    b'n',
-    b'o',
-    b'.',
-    b' ',
-    b'1',
-];
-
-// Fills in the key trees and the user list. User a's seed is a 32 times, its I is a 16 times.
-pub fn keys(trees: &mut [u8], users: &mut [u8]) {
-    key(1, trees, users);
-    key(2, trees, users);
-}
-
-// Makes the key of user 1 or 2.
-fn key(a: u8, trees: &mut [u8], users: &mut [u8]) {
-    let mut tree = [0u8; 65504];
-    let mut public = [0u8; 56];
-    lms::generate([a; 32], [a; 16], &mut tree);
-    lms::public_key([a; 16], &tree, &mut public);
-    bytes::put(trees, 65504 * before(a), &tree);
-    bytes::put(users, 56 * before(a), &public);
-}
-
-// How many users stand before user 1 or 2.
-fn before(a: u8) -> usize
-    ensures { λ r. ⌜ r < 2 ⌝ }
-{
-    (a as usize + 1) % 2
-}
 
 // The entry of position p, which is at most 5.
 fn entry(p: u32) -> [u8; 8] {
@@ -113,21 +71,21 @@ pub fn request(f: [u32; 16], trees: &[u8], q: &mut [u8]) -> u32 {
 fn put(f: [u32; 16], body: &[u8], q: &mut [u8]) {
     let kind = (f[2] % 256) as u8;
     let author = (f[3] % 65536) as u16;
-    message::put_request(q, kind, LOG, author, f[4], (f[5] % 256) as u8, body);
+    message::put_request(q, kind, key::LOG, author, f[4], (f[5] % 256) as u8, body);
 }
 
 // The body of a Commit: the digest, and a key's signature of that number, which also makes up the randomizer.
 fn signed(f: [u32; 16], trees: &[u8]) -> [u8; 2540] {
-    let key = (f[8] % 256) as u8;
+    let name = (f[8] % 256) as u8;
     let digest = digest_of(f[7]);
-    let text = message::signed_text(LOG, f[4], digest);
+    let text = message::signed_text(key::LOG, f[4], digest);
     let mut body = [0u8; 2540];
     bytes::put(&mut body, 0, &digest);
     let randomizer = [(f[9] % 256) as u8; 32];
-    let tree = bytes::from(trees, 65504 * before(key));
+    let tree = key::tree_of(trees, name);
     lms::sign(
-        [key; 32],
-        [key; 16],
+        [name; 32],
+        [name; 16],
         f[9],
         randomizer,
         &text,

@@ -35,12 +35,18 @@ fn lines_of(text: &[u8], users: &[u8], trees: &[u8]) {
     let mut number: usize = 0;
     let mut at = 0;
     while at < text.len() {
-        let end = lines::find(text, at, b'\n');
+        let rest = bytes::from(text, at);
+        let n = lines::find(rest, b'\n');
         number += 1;
-        group = run::line(&text[at..end], number, group, memory, servers, users, trees);
-        if end == text.len() {
-            return;
-        }
-        at = end + 1;
+        group = run::line(
+            bytes::front(rest, n),
+            number,
+            group,
+            memory,
+            servers,
+            users,
+            trees,
+        );
+        at += n + 1;
     }
 }

@@ -26,7 +26,8 @@ pub fn line(
         return g;
     }
     report::echo(line);
-    let c = script::parse(line, g.servers);
+    let text = bytes::from(line, lines::skip_blanks(line, 0));
+    let c = script::parse(text, g.servers);
     if report::fault(number, c, g.servers) {
         return g;
     }
@@ -35,7 +36,7 @@ pub fn line(
         Word::Servers => begin(c.first, memory, servers),
         Word::Fork => fork::begin(g, c.first, memory, servers),
         _ => {
-            act(c, line, g, memory, servers, users, trees);
+            act(c, text, g, memory, servers, users, trees);
             g
         }
     }

@@ -45,12 +45,11 @@ pub fn is_idle(line: &[u8]) -> bool {
     bytes::byte_at(line, start) == b'#'
 }
 
-// The command of a line, for a log of so many servers.
+// The command of a line that does not begin with a blank, for a log of so many servers.
 pub fn parse(line: &[u8], servers: u8) -> Command {
-    let start = lines::skip_blanks(line, 0);
-    let end = lines::find(line, start, b' ');
-    let word = word_of(bytes::front(bytes::from(line, start), end - start));
-    let first = number(line, end);
+    let size = lines::find(line, b' ');
+    let word = word_of(bytes::front(line, size));
+    let first = number(line, size);
     let second = number(line, first.next);
     let mut next = first.next;
     if takes_second(word) {

@@ -6,10 +6,10 @@ use Rattle.lines.proofs.find.Statement.{statement}
 use Rattle.lines.proofs.find.Tie as tie
 
 abbrev Inv-loop : tie.InvT-loop
-Inv-loop s i b at₀ at = (i ≤ at) × (i ≤ length s → at ≤ length s)
+Inv-loop s b at₀ at = at ≤ length s
 
 abbrev μ-loop : tie.MeasureT-loop
-μ-loop s i b at₀ at = length s - at
+μ-loop s b at₀ at = length s - at
 
 loop-holds : tie.Need-loop-holds Inv-loop μ-loop
 loop-holds c = search needs

@@ -1,13 +1,12 @@
-use native.Mathlib.Omega.{arith}
 -- `rows` is safe and ends. What is left of the text falls with each line.
-use borrow.Author.Needs.{needs}
 use Prim.Native.Nat.{_≤_, _-_}
 use lib.ListN.{length}
+use borrow.Author.Needs.{needs}
 use Rattle.server_cases.proofs.rows.Statement.{statement}
 use Rattle.server_cases.proofs.rows.Tie as tie
 
 abbrev Inv-loop : tie.InvT-loop
-Inv-loop text users trees servers₀ at₀ servers at = at ≤ length text
+Inv-loop text users trees servers₀ at₀ servers at = 0 ≤ at
 
 abbrev μ-loop : tie.MeasureT-loop
 μ-loop text users trees servers₀ at₀ servers at = length text - at
@@ -21,35 +20,32 @@ slice-aggregate-servers c = search needs
 loop-holds : tie.Need-loop-holds Inv-loop μ-loop
 loop-holds c = search needs
 
+from-requires : tie.Need-from-requires Inv-loop μ-loop
+from-requires c κs = search needs
+
 find-requires : tie.Need-find-requires Inv-loop μ-loop
 find-requires c κs = search needs
 
-sub-run : tie.Need-sub-run Inv-loop μ-loop
-sub-run c = search needs
-
-part-run-start : tie.Need-part-run-start Inv-loop μ-loop
-part-run-start c = search needs
-
-part-run-end : tie.Need-part-run-end Inv-loop μ-loop
-part-run-end c = omega (arith, c .find .ensures .0, c .find .ensures .1 (c .before .before .loop .inv))
+front-requires : tie.Need-front-requires Inv-loop μ-loop
+front-requires c κs = search needs
 
 run-requires : tie.Need-run-requires Inv-loop μ-loop
 run-requires c κs = search needs
 
-returns : tie.Need-returns Inv-loop μ-loop
-returns c = search needs
-
 add-at : tie.Need-add-at Inv-loop μ-loop
-add-at c = omega (arith, c .if1 .left, c .before .before .before .before .before .before .find .ensures .0, c .before .before .before .before .before .before .find .ensures .1 (c .before .before .before .before .before .before .before .before .loop .inv))
+add-at c = search needs
+
+add-at-2 : tie.Need-add-at-2 Inv-loop μ-loop
+add-at-2 c = search needs
 
 loop-less : tie.Need-loop-less Inv-loop μ-loop
-loop-less c = omega (arith, c .before .before .before .before .before .before .before .loop-test .taken, c .before .before .before .before .before .before .find .ensures .0, c .before .before .before .before .before .before .find .ensures .1 (c .before .before .before .before .before .before .before .before .loop .inv))
+loop-less c = search needs
 
 loop-again : tie.Need-loop-again Inv-loop μ-loop
-loop-again c = omega (arith, c .if1 .left, c .before .before .before .before .before .before .find .ensures .0, c .before .before .before .before .before .before .find .ensures .1 (c .before .before .before .before .before .before .before .before .loop .inv))
+loop-again c = search needs
 
-returns-2 : tie.Need-returns-2 Inv-loop μ-loop
-returns-2 c = search needs
+returns : tie.Need-returns Inv-loop μ-loop
+returns c = search needs
 
 pub rows-spec : {M : Type 1} → statement M
 rows-spec =
@@ -60,13 +56,12 @@ rows-spec =
     large-buffer-requires
     slice-aggregate-servers
     loop-holds
+    from-requires
     find-requires
-    sub-run
-    part-run-start
-    part-run-end
+    front-requires
     run-requires
-    returns
     add-at
+    add-at-2
     loop-less
     loop-again
-    returns-2)
+    returns)

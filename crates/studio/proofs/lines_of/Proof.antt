@@ -1,13 +1,12 @@
 -- `lines_of` is safe and ends. What is left of the text falls with each line, and no more lines are counted than bytes.
 use borrow.Author.Needs.{needs}
 use Prim.Native.Nat.{_≤_, _-_}
-use native.Mathlib.Omega.{arith}
 use lib.ListN.{length}
 use Rattle.studio.proofs.lines_of.Statement.{statement}
 use Rattle.studio.proofs.lines_of.Tie as tie
 
 abbrev Inv-loop : tie.InvT-loop
-Inv-loop text users trees servers₀ memory₀ group₀ number₀ at₀ servers memory group number at = (at ≤ length text) × (number ≤ at)
+Inv-loop text users trees servers₀ memory₀ group₀ number₀ at₀ servers memory group number at = number ≤ at
 
 abbrev μ-loop : tie.MeasureT-loop
 μ-loop text users trees servers₀ memory₀ group₀ number₀ at₀ servers memory group number at = length text - at
@@ -27,38 +26,35 @@ fresh-requires c κs = search needs
 loop-holds : tie.Need-loop-holds Inv-loop μ-loop
 loop-holds c = search needs
 
+from-requires : tie.Need-from-requires Inv-loop μ-loop
+from-requires c κs = search needs
+
 find-requires : tie.Need-find-requires Inv-loop μ-loop
 find-requires c κs = search needs
 
 add-number : tie.Need-add-number Inv-loop μ-loop
 add-number c = search needs
 
-sub-line : tie.Need-sub-line Inv-loop μ-loop
-sub-line c = omega (arith, c .find .ensures .0, c .find .ensures .1 (c .before .before .loop .inv .0))
-
-part-line-start : tie.Need-part-line-start Inv-loop μ-loop
-part-line-start c = omega (arith, c .find .ensures .0, c .find .ensures .1 (c .before .before .loop .inv .0))
-
-part-line-end : tie.Need-part-line-end Inv-loop μ-loop
-part-line-end c = omega (arith, c .find .ensures .0, c .find .ensures .1 (c .before .before .loop .inv .0))
+front-requires : tie.Need-front-requires Inv-loop μ-loop
+front-requires c κs = search needs
 
 line-requires : tie.Need-line-requires Inv-loop μ-loop
 line-requires c κs = search needs
 
-returns : tie.Need-returns Inv-loop μ-loop
-returns c = search needs
-
 add-at : tie.Need-add-at Inv-loop μ-loop
-add-at c = omega (arith, c .if1 .left, c .before .before .before .before .before .before .before .before .before .find .ensures .0, c .before .before .before .before .before .before .before .before .before .find .ensures .1 (c .before .before .before .before .before .before .before .before .before .before .before .loop .inv .0))
+add-at c = search needs
+
+add-at-2 : tie.Need-add-at-2 Inv-loop μ-loop
+add-at-2 c = search needs
 
 loop-less : tie.Need-loop-less Inv-loop μ-loop
-loop-less c = omega (arith, c .before .before .before .before .before .before .before .before .before .before .loop-test .taken, c .before .before .before .before .before .before .before .before .before .find .ensures .0, c .before .before .before .before .before .before .before .before .before .find .ensures .1 (c .before .before .before .before .before .before .before .before .before .before .before .loop .inv .0))
+loop-less c = search needs
 
 loop-again : tie.Need-loop-again Inv-loop μ-loop
-loop-again c = (omega (arith, c .if1 .left, c .before .before .before .before .before .before .before .before .before .find .ensures .0, c .before .before .before .before .before .before .before .before .before .find .ensures .1 (c .before .before .before .before .before .before .before .before .before .before .before .loop .inv .0)), omega (arith, c .before .before .before .before .before .before .before .before .before .before .before .loop .inv .1, c .before .before .before .before .before .before .before .before .before .find .ensures .0, c .before .before .before .before .before .before .before .before .before .find .ensures .1 (c .before .before .before .before .before .before .before .before .before .before .before .loop .inv .0)))
+loop-again c = search needs
 
-returns-2 : tie.Need-returns-2 Inv-loop μ-loop
-returns-2 c = search needs
+returns : tie.Need-returns Inv-loop μ-loop
+returns c = search needs
 
 pub lines-of-spec : {M : Type 1} → statement M
 lines-of-spec =
@@ -71,14 +67,13 @@ lines-of-spec =
     slice-aggregate-memory
     fresh-requires
     loop-holds
+    from-requires
     find-requires
     add-number
-    sub-line
-    part-line-start
-    part-line-end
+    front-requires
     line-requires
-    returns
     add-at
+    add-at-2
     loop-less
     loop-again
-    returns-2)
+    returns)

@@ -1,0 +1,50 @@
+// The log's name and the keys of users 1 and 2.
+ghost use Prim.Native.Nat.{_<_};
+use sha256::bytes;
+
+pub const LOG: [u8; 16] = [
+    b'f',
+    b'i',
+    b'r',
+    b'i',
+    b'n',
+    b'g',
+    b' ',
+    b'l',
+    b'o',
+    b'g',
+    b' ',
+    b'n',
+    b'o',
+    b'.',
+    b' ',
+    b'1',
+];
+
+// Fills in the key trees and the user list. User a's seed is a 32 times, its I is a 16 times.
+pub fn keys(trees: &mut [u8], users: &mut [u8]) {
+    key(1, trees, users);
+    key(2, trees, users);
+}
+
+// Makes the key of user 1 or 2.
+fn key(a: u8, trees: &mut [u8], users: &mut [u8]) {
+    let mut tree = [0u8; 65504];
+    let mut public = [0u8; 56];
+    lms::generate([a; 32], [a; 16], &mut tree);
+    lms::public_key([a; 16], &tree, &mut public);
+    bytes::put(trees, 65504 * before(a), &tree);
+    bytes::put(users, 56 * before(a), &public);
+}
+
+// How many users stand before user 1 or 2.
+fn before(a: u8) -> usize
+    ensures { λ r. ⌜ r < 2 ⌝ }
+{
+    (a as usize + 1) % 2
+}
+
+// The key tree of user 1 or 2, with what follows it.
+pub fn tree_of(trees: &[u8], a: u8) -> &[u8] {
+    bytes::from(trees, 65504 * before(a))
+}

@@ -1,0 +1,36 @@
+// Document 01's user cases: an honest run of two users on four servers, each code of the user's table and the ends of its ranges, and a
+// Write that is cut after each of its answers and resumed. Each line of data/cases.txt is one step or a run of answers, and
+// data/README.md says what its numbers mean. What is printed is said there too.
+mod answer;
+mod memory;
+mod report;
+mod row;
+mod step;
+
+use cases::file;
+use cases::key;
+use sha256::bytes;
+
+fn main() {
+    let mut trees = [0u8; 131008];
+    let mut users = [0u8; 3640];
+    key::keys(&mut trees, &mut users);
+    let mut text = io::large_buffer();
+    let n = file::read(&mut text);
+    rows(bytes::front(&text, n), &users, &trees);
+}
+
+// All lines, one after the other: 16 places of users, and four servers that begin with nothing reserved and nothing stored.
+fn rows(text: &[u8], users: &[u8], trees: &[u8]) {
+    let mut world = [0u8; 163840];
+    let mut group = [0u8; 65536];
+    let places: &mut [u8] = &mut world;
+    let servers: &mut [u8] = &mut group;
+    let mut at: usize = 0;
+    while at < text.len() {
+        let rest = bytes::from(text, at);
+        let n = lines::find(rest, b'\n');
+        row::run(bytes::front(rest, n), places, servers, users, trees);
+        at += n + 1;
+    }
+}
