@@ -1,0 +1,171 @@
+-- The server's call over the head's 39 bytes.
+use mathlib.Core.Path.{_≡_, refl, _∙_, sym, ap, ap₂}
+use mathlib.Core.Bool.{true, false, _&&_}
+use mathlib.Core.List.{List, _∷_, _++_, append-assoc}
+use Prim.Native.Nat.{ℕ, zero, suc, _+_, _*_, _/_, _%_, _^_, _≤_, _<_, min}
+use native.Mathlib.Nat.{add-zero, pow-suc, mul-le-mul-right}
+use native.Mathlib.Omega.{arith}
+use lib.Arith.{digits-div, digits-mod}
+use lib.Dec.{eqb, leb}
+use lib.ListN.{length, drop, getD, replicate, length-append, length-drop, length-replicate}
+use lib.Seq.{take-all, drop-cons}
+use borrow.Author.Tests.{eq-eqb, ne-eqb, leb-true}
+use Rattle.sha256.specs.Bytes.{be, numberAt, written}
+use Rattle.sha256.proofs.Laws.{be-length, be-mod, number-be}
+use Rattle.sha256.proofs.Numbers.{be-two, be-four, number-two}
+use Rattle.sha256.proofs.Window.{elements}
+use Rattle.lms.proofs.Writing.{written-whole}
+use Rattle.tree.specs.Cover.{piece}
+use Rattle.tree.proofs.Cases.{cases-le, and-true, untrue}
+use Rattle.tree.proofs.Messages.{be-one, number-elements, three-parts}
+use Rattle.tree.proofs.Pieces.{piece-whole}
+use Rattle.tree.specs.Setup.{groupFits, firstCode, userCount, settings}
+use Rattle.server.specs.declared.Head.{Head}
+use Rattle.server.specs.declared.Out.{Out}
+use Rattle.server.specs.Checks.{setupChecks, settingsFit}
+use Rattle.server.specs.Serve.{refusedSetup, served}
+use Rattle.tree.proofs.Groups.{group-fits}
+use Rattle.server.proofs.Served.{served-refused}
+use Rattle.server.proofs.Sizes.{answer-at-most-2552}
+use Rattle.lent_bytes.specs.Server.{headBytes, headOf, resultOf, serverLeft}
+use Rattle.lent_bytes.specs.declared.serving.Served.{Served}
+
+-- the head that is read, and the bytes that are laid
+pub head-read : (b : List ℕ) (p a : ℕ) (t d : List ℕ) → length b ≡ 39 → p ≡ numberAt 4 b 0 → a ≡ numberAt 2 b 5 → t ≡ drop 7 b → d ≡ piece t 0
+    → _≡_ {A = Head} (record { position = p; level = getD b 4 0; author = a; digest = d }) (headOf b)
+unfolding headOf
+head-read b p a t d l ep ea et ed =
+    let ld = length-drop 7 b in
+    let e : d ≡ drop 7 b = ed ∙ ap (λ (x : List ℕ). piece x 0) et ∙ piece-whole (drop 7 b) 0 (omega arith) ∙ take-all 32 (drop 7 b) (omega arith) in
+    rw (ep, ea, e)
+
+pub head-laid : (h : Head) (p a out : List ℕ) → length (h .digest) ≡ 32 → h .level < 256 → p ≡ be 4 (h .position) → a ≡ be 2 (h .author)
+    → out ≡ written (replicate 39 0) 0 ((elements p 0 4 ++ (h .level ∷ elements a 0 2)) ++ h .digest) → out ≡ headBytes h
+unfolding headBytes
+head-laid h p a out ld hl ep ea eo =
+    let parts : (elements p 0 4 ++ (h .level ∷ elements a 0 2)) ++ h .digest ≡ be 4 (h .position) ++ (be 1 (h .level) ++ (be 2 (h .author) ++ h .digest)) =
+    three-parts (λ x y z. (x ++ (h .level ∷ y)) ++ z) (number-elements 4 (h .position) p ep) (number-elements 2 (h .author) a ea) refl
+    ∙ rw (be-one (h .level) hl) (append-assoc (be 4 (h .position)) (h .level ∷ be 2 (h .author)) (h .digest)) in
+    let size : length (be 4 (h .position) ++ (be 1 (h .level) ++ (be 2 (h .author) ++ h .digest))) ≡ 39 =
+    simp length-append (omega (arith, be-length 4 (h .position), be-length 1 (h .level), be-length 2 (h .author))) in
+    eo ∙ ap (written (replicate 39 0) 0) parts
+    ∙ written-whole (replicate 39 0) (be 4 (h .position) ++ (be 1 (h .level) ++ (be 2 (h .author) ++ h .digest))) (omega (arith, length-replicate {A = ℕ} 39 0))
+
+-- The bytes of a head, written out.
+head-elements : (h : Head) → h .level < 256
+    → headBytes h ≡ h .position / 16777216 % 256 ∷ h .position / 65536 % 256 ∷ h .position / 256 % 256 ∷ h .position % 256
+    ∷ h .level ∷ h .author / 256 % 256 ∷ h .author % 256 ∷ h .digest
+unfolding headBytes
+head-elements h l = rw (be-four (h .position), be-one (h .level) l, be-two (h .author))
+
+position-first : (h : Head) → h .position < 4294967296 → numberAt 4 (headBytes h) 0 ≡ h .position
+unfolding headBytes
+position-first h b = number-be 4 (h .position) (be 1 (h .level) ++ (be 2 (h .author) ++ h .digest)) b
+
+-- A head that a call leaves is the head that the next call reads.
+pub decode-encode : (h : Head) → h .position < 4294967296 → h .level < 256 → h .author < 65536 → headOf (headBytes h) ≡ h
+unfolding headOf
+decode-encode h hp hl ha =
+    let e = head-elements h hl in
+    let author : numberAt 2 (headBytes h) 5 ≡ h .author = number-two (headBytes h) 5 ∙ rw e (omega arith) in
+    let level : getD (headBytes h) 4 0 ≡ h .level = ap (λ (s : List ℕ). getD s 4 0) e in
+    let digest : drop 7 (headBytes h) ≡ h .digest = ap (drop 7) e in
+    rw (position-first h hp, level, author, digest)
+
+-- the bytes of the number that bytes stand for are those bytes
+module _ (b : List ℕ) (bytes : (i : ℕ) → getD b i 0 < 256) where
+  number-below : (k i : ℕ) → numberAt k b i < 256 ^ k
+  unfolding numberAt
+  number-below zero i = omega arith
+  number-below (suc k) i =
+      let m : getD b i 0 * 256 ^ k ≤ 255 * 256 ^ k = mul-le-mul-right (256 ^ k) (omega (arith, bytes i)) in
+      omega (arith, pow-suc 256 k, number-below k (suc i))
+
+  be-number : (k i : ℕ) → be k (numberAt k b i) ≡ elements b i k
+  unfolding be numberAt
+  be-number zero i = refl
+  be-number (suc k) i =
+      let low = number-below k (suc i) in
+      let x : ℕ = getD b i 0 in
+      let high : (x * 256 ^ k + numberAt k b (suc i)) / 256 ^ k % 256 ≡ x = rw (digits-div x low) (omega (arith, bytes i)) in
+      let rest : be k (x * 256 ^ k + numberAt k b (suc i)) ≡ elements b (suc i) k =
+      sym (be-mod k (x * 256 ^ k + numberAt k b (suc i))) ∙ ap (be k) (digits-mod x low) ∙ be-number k (suc i) in
+      ap₂ (λ (y : ℕ) (l : List ℕ). y ∷ l) high rest
+
+  elements-rest : (n i : ℕ) → i + n ≤ length b → elements b i n ++ drop (i + n) b ≡ drop i b
+  elements-rest zero i h = rw add-zero
+  elements-rest (suc n) i h =
+      let e : i + suc n ≡ suc i + n = omega arith in
+      rw e (ap (λ (l : List ℕ). getD b i 0 ∷ l) (elements-rest n (suc i) (omega arith)) ∙ sym (drop-cons b i 0 (omega arith)))
+
+  -- A call that is accepted and leaves the head leaves its bytes.
+  pub encode-decode : length b ≡ 39 → headBytes (headOf b) ≡ b
+  unfolding headBytes headOf
+  encode-decode l =
+      let level : be 1 (getD b 4 0) ≡ elements b 4 1 = be-one (getD b 4 0) (bytes 4) in
+      rw (be-number 4 0, level, be-number 2 5) (elements-rest 7 0 (omega arith))
+
+-- what settings that fit say of the two numbers
+numbers-fit : (servers own : ℕ) (users : List ℕ) → settingsFit servers own users ≡ true → (servers ≤ 16) × (own ≤ servers)
+unfolding settingsFit
+numbers-fit servers own users t =
+    let a = and-true (groupFits servers users) (leb 1 own && leb own servers) t in
+    (group-fits servers users (a .0) .sixteen, leb-true own servers (and-true (leb 1 own) _ (a .1) .1))
+
+-- a number of servers above 16, or an own number above it, is refused with 22
+module _ (log users : List ℕ) (h : Head) (store : List ℕ) (used : ℕ) (q answer : List ℕ) where
+  unfit : (servers own : ℕ) → (servers ≤ 16 → own ≤ servers → ⊥)
+      → served (settings servers own log users) h store used q answer ≡ refusedSetup 22 h store used answer
+  unfolding setupChecks firstCode
+  unfit servers own n =
+      let none : settingsFit servers own users ≡ false =
+      untrue (settingsFit servers own users) (λ t. let b = numbers-fit servers own users t in n (b .0) (b .1)) in
+      served-refused (settings servers own log users) h store used q answer 22 (rw none) (λ e. omega arith)
+
+  -- so a number that does not fit a byte may be taken for 255
+  narrowed : (servers own : ℕ) → served (settings (min servers 255) (min own 255) log users) h store used q answer ≡ served (settings servers own log users) h store used q answer
+  narrowed servers own =
+      cases-le servers 255
+      (λ s.
+      cases-le own 255
+      (λ o. let a : min servers 255 ≡ servers = omega arith in let b : min own 255 ≡ own = omega arith in rw (a, b))
+      (λ o. both (λ x y. omega arith) (λ x y. omega arith)))
+      (λ s. both (λ x y. omega arith) (λ x y. omega arith))
+    where
+      both : (servers ≤ 16 → own ≤ servers → ⊥) → (min servers 255 ≤ 16 → min own 255 ≤ min servers 255 → ⊥)
+          → served (settings (min servers 255) (min own 255) log users) h store used q answer ≡ served (settings servers own log users) h store used q answer
+      both f g = unfit (min servers 255) (min own 255) g ∙ sym (unfit servers own f)
+
+-- what the call below gave
+pub record Called (servers own : ℕ) (log users head store : List ℕ) (used : ℕ) (q answer : List ℕ) (out : Out) (s a : List ℕ) : Type 0 where
+  pub result : out ≡ served (settings servers own log users) (headOf head) store used q answer .out
+  pub stored : s ≡ served (settings servers own log users) (headOf head) store used q answer .store
+  pub answered : a ≡ served (settings servers own log users) (headOf head) store used q answer .answer
+
+module _ {servers own : ℕ} {log users head store : List ℕ} {used : ℕ} {q answer : List ℕ} {out : Out} {s a : List ℕ} where
+  pub called : {n m : ℕ} {before : Head} → n ≡ min servers 255 → m ≡ min own 255 → before ≡ headOf head
+      → (out ≡ served (settings n m log users) before store used q answer .out)
+      × ((s ≡ served (settings n m log users) before store used q answer .store) × (a ≡ served (settings n m log users) before store used q answer .answer))
+      → Called servers own log users head store used q answer out s a
+  called en em eb e =
+      let f = rw (en, em, eb, narrowed log users (headOf head) store used q answer servers own) at e in
+      record { result = f .0; stored = f .1 .0; answered = f .1 .1 }
+
+  module _ (e : Called servers own log users head store used q answer out s a) where
+    pub answer-small : out .answered ≤ 2552
+    answer-small = rw (e .result) (answer-at-most-2552 (settings servers own log users) (headOf head) store used q answer)
+
+    -- so the call over bytes leaves what its definition says
+    pub left-refused : {r : Served} → (out .code ≡ 0 → ⊥) → r ≡ resultOf out
+        → (r ≡ serverLeft servers own log users head store used q answer .result)
+        × ((head ≡ serverLeft servers own log users head store used q answer .head)
+        × ((s ≡ serverLeft servers own log users head store used q answer .store) × (a ≡ serverLeft servers own log users head store used q answer .answer)))
+    unfolding serverLeft
+    left-refused n er = rw (← e .result, ne-eqb (out .code) 0 n) (er, (refl, (e .stored, e .answered)))
+
+    pub left-taken : {r : Served} {after : List ℕ} → out .code ≡ 0 → after ≡ headBytes (out .head) → r ≡ resultOf out
+        → (r ≡ serverLeft servers own log users head store used q answer .result)
+        × ((after ≡ serverLeft servers own log users head store used q answer .head)
+        × ((s ≡ serverLeft servers own log users head store used q answer .store) × (a ≡ serverLeft servers own log users head store used q answer .answer)))
+    unfolding serverLeft
+    left-taken z ea er = rw (← e .result, eq-eqb (out .code) 0 z) (er, (ea, (e .stored, e .answered)))

@@ -1,0 +1,41 @@
+use Rattle.lent_bytes.proofs.UserAnswers.{update-answered}
+use borrow.Author.Needs.{needs}
+use Rattle.lent_bytes.proofs.taking.update_answer.Statement.{statement}
+use Rattle.lent_bytes.proofs.taking.update_answer.Tie as tie
+
+update-of-requires : tie.Need-update-of-requires
+update-of-requires c κs = search needs
+
+kept-of-requires : tie.Need-kept-of-requires
+kept-of-requires c κs = search needs
+
+take-requires : tie.Need-take-requires
+take-requires c κs = search needs
+
+lay-kept-requires : tie.Need-lay-kept-requires
+lay-kept-requires c κs = search needs
+
+lay-update-requires : tie.Need-lay-update-requires
+lay-update-requires c κs = search needs
+
+plain-result-requires : tie.Need-plain-result-requires
+plain-result-requires c κs = search needs
+
+same-length : tie.Need-same-length
+same-length c = search needs
+
+returns : tie.Need-returns
+returns c = λ path signature held entry. update-answered _ _ _ path signature _ _ held _ entry _ _ _ _ _ (c .before .before .before .before .before .before .before .before .before .before .before .kept-of .ensures) _ _ _ (c .before .before .before .before .before .before .before .before .before .before .before .before .before .before .update-of .ensures) (c .before .before .before .before .before .before .before .before .take .ensures) (c .before .before .before .lay-kept .ensures) (c .before .lay-update .ensures) (c .plain-result .ensures)
+
+pub update-answer-spec : {M : Type 1} → statement M
+update-answer-spec =
+    tie.close
+    (tie.spec
+    update-of-requires
+    kept-of-requires
+    take-requires
+    lay-kept-requires
+    lay-update-requires
+    plain-result-requires
+    same-length
+    returns)

@@ -1,0 +1,41 @@
+use Rattle.lent_bytes.proofs.UserCalls.{update-begun}
+use borrow.Author.Needs.{needs}
+use Rattle.lent_bytes.proofs.using.update_start.Statement.{statement}
+use Rattle.lent_bytes.proofs.using.update_start.Tie as tie
+
+narrow-requires : tie.Need-narrow-requires
+narrow-requires c κs = search needs
+
+narrow-user-requires : tie.Need-narrow-user-requires
+narrow-user-requires c κs = search needs
+
+kept-of-requires : tie.Need-kept-of-requires
+kept-of-requires c κs = search needs
+
+start-requires : tie.Need-start-requires
+start-requires c κs = search needs
+
+lay-update-requires : tie.Need-lay-update-requires
+lay-update-requires c κs = search needs
+
+plain-result-requires : tie.Need-plain-result-requires
+plain-result-requires c κs = search needs
+
+same-length : tie.Need-same-length
+same-length c = search needs
+
+returns : tie.Need-returns
+returns c = update-begun _ _ _ _ _ _ _ _ (c .before .before .before .before .before .before .before .before .before .before .before .before .narrow .ensures) (c .before .before .before .before .before .before .before .before .before .before .before .narrow-user .ensures) (c .before .before .before .before .before .before .before .before .kept-of .ensures) _ _ _ _ _ _ (c .before .before .before .before .before .before .start .ensures) (c .before .lay-update .ensures) (c .plain-result .ensures)
+
+pub update-start-spec : {M : Type 1} → statement M
+update-start-spec =
+    tie.close
+    (tie.spec
+    narrow-requires
+    narrow-user-requires
+    kept-of-requires
+    start-requires
+    lay-update-requires
+    plain-result-requires
+    same-length
+    returns)

@@ -1,0 +1,3 @@
+-- What the calls over lent bytes answer and leave.
+pub mod Server
+pub mod User

@@ -1,0 +1,7 @@
+// The server's and the user's calls over lent bytes at fixed offsets: a head, what a user keeps and a call that goes on, as C callers
+// keep them.
+mod numbers;
+pub mod serving;
+pub mod taking;
+mod user_state;
+pub mod using;

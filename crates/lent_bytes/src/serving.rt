@@ -1,0 +1,95 @@
+// The server's call, its head in 39 lent bytes.
+ghost use mathlib.Core.Path.{_≡_};
+ghost use Prim.Native.Nat.{_≤_};
+ghost use Rattle.lent_bytes.specs.Server.{headBytes, headOf, resultOf, serverLeft};
+use super::numbers;
+use server::Head;
+use server::Out;
+use sha256::bytes;
+use tree::digest;
+
+// A call's code, the length of its answer, 0 where none is written, and the store's used length after it.
+#[repr(C)]
+pub struct Served {
+    pub code: u32,
+    pub answer: u32,
+    pub used: u64,
+}
+
+// The head that 39 bytes stand for.
+fn head_of(b: [u8; 39]) -> Head
+    ensures { λ r. ⌜ r ≡ headOf b ⌝ }
+{
+    let position = bytes::u32_at(&b, 0);
+    let author = bytes::u16_at(&b, 5);
+    let digest = digest::piece(bytes::from(&b, 7), 0);
+    Head {
+        position,
+        level: b[4],
+        author,
+        digest,
+    }
+}
+
+// A head as 39 bytes.
+fn head_bytes(h: Head) -> [u8; 39]
+    ensures { λ r. ⌜ r ≡ headBytes h ⌝ }
+{
+    let p = bytes::be4(h.position);
+    let a = bytes::be2(h.author);
+    let first = [p[0], p[1], p[2], p[3], h.level, a[0], a[1]];
+    let digest = h.digest;
+    let mut out = [0u8; 39];
+    bytes::put2(&mut out, 0, &first, &digest);
+    out
+}
+
+// What a call's result is to the caller.
+fn result(out: Out) -> Served
+    requires { ⌜ out .answered ≤ 2552 ⌝ }
+    ensures { λ r. ⌜ r ≡ resultOf out ⌝ }
+{
+    Served {
+        code: out.code as u32,
+        answer: out.answered as u32,
+        used: out.used as u64,
+    }
+}
+
+// One call of the server: takes in a request of any bytes. After a refusal the head and the store are as they were.
+pub fn serve(
+    servers: u32,
+    own: u32,
+    log: &[u8; 16],
+    users: &[u8],
+    head: &mut [u8; 39],
+    store: &mut [u8],
+    used: u64,
+    request: &[u8],
+    answer: &mut [u8],
+) -> Served
+    ensures { λ r. ⌜ (r ≡ serverLeft servers own (now (log .entry)) (now (users .entry)) (now (head .entry)) (now (store .entry)) used (now (request .entry)) (now (answer .entry)) .result)
+        × ((now (head .exit) ≡ serverLeft servers own (now (log .entry)) (now (users .entry)) (now (head .entry)) (now (store .entry)) used (now (request .entry)) (now (answer .entry)) .head)
+        × ((now (store .exit) ≡ serverLeft servers own (now (log .entry)) (now (users .entry)) (now (head .entry)) (now (store .entry)) used (now (request .entry)) (now (answer .entry)) .store)
+        × (now (answer .exit) ≡ serverLeft servers own (now (log .entry)) (now (users .entry)) (now (head .entry)) (now (store .entry)) used (now (request .entry)) (now (answer .entry)) .answer))) ⌝ }
+{
+    let before = head_of(*head);
+    let out = server::serve(
+        numbers::narrow(servers),
+        numbers::narrow(own),
+        *log,
+        users,
+        before,
+        store,
+        used as usize,
+        request,
+        answer,
+    );
+    let next = out.head;
+    if out.code != 0 {
+        return result(out);
+    }
+    let after = head_bytes(next);
+    *head = after;
+    result(out)
+}
