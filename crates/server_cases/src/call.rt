@@ -1,10 +1,10 @@
 // One call of the server on a place of 8,192 bytes: the head and the used length in the first 48, then the store.
 ghost use mathlib.Core.Path.{_≡_};
 ghost use lib.ListN.{length};
-use cases::key;
-use cases::line;
-use cases::place as server_place;
-use cases::print;
+use programs::key;
+use programs::line;
+use programs::place as server_place;
+use programs::print;
 use server::Head;
 use server::Out;
 use sha256::bytes;

@@ -6,8 +6,8 @@ mod call;
 mod row;
 mod user;
 
-use cases::file;
-use cases::key;
+use programs::file;
+use programs::key;
 use sha256::bytes;
 
 fn main() {

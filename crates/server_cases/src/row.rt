@@ -4,8 +4,8 @@ ghost use mathlib.Core.Path.{_≡_};
 ghost use lib.ListN.{length};
 use crate::call;
 use crate::user;
-use cases::line;
-use cases::print;
+use programs::line;
+use programs::print;
 use sha256::bytes;
 
 // Makes the call that a line says, and prints the line's name and what the call gave.

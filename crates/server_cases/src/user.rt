@@ -1,5 +1,5 @@
 // What users 1 and 2 send: their entries, digests and requests.
-use cases::key;
+use programs::key;
 use sha256::bytes;
 use tree::digest;
 use tree::message;

@@ -4,6 +4,7 @@ use crate::group;
 use crate::group::Group;
 use crate::memory;
 use crate::place;
+use programs::key;
 use sha256::bytes;
 use user::call::Found;
 use user::call::Kept;
@@ -79,7 +80,7 @@ fn update_turn(
     call.take(
         g.servers,
         own,
-        group::LOG,
+        key::LOG,
         users,
         s.kept,
         bytes::front(&answer, n),
@@ -92,7 +93,7 @@ fn update_turn(
 pub fn update(g: Group, own: u16, kept: Kept, servers: &mut [u8], users: &[u8]) -> Done {
     let mut hashes = [0u8; 1248];
     let mut request = [0u8; 2566];
-    let mut s = Update::start(g.servers, own, group::LOG, users, kept, &mut request);
+    let mut s = Update::start(g.servers, own, key::LOG, users, kept, &mut request);
     let mut answers: usize = 0;
     let mut turns: usize = 0;
     while turns < 99 {
@@ -133,7 +134,7 @@ fn read_turn(
     call.take(
         g.servers,
         own,
-        group::LOG,
+        key::LOG,
         users,
         kept,
         bytes::front(&answer, n),
@@ -157,7 +158,7 @@ fn read_start(
     Read::start(
         g.servers,
         own,
-        group::LOG,
+        key::LOG,
         users,
         kept,
         position,
@@ -238,7 +239,7 @@ fn write_turn(
     call.take(
         g.servers,
         own,
-        group::LOG,
+        key::LOG,
         users,
         s.kept,
         [a; 16],
@@ -329,7 +330,7 @@ fn write_start(
     Write::start(
         g.servers,
         own,
-        group::LOG,
+        key::LOG,
         users,
         kept,
         tree,

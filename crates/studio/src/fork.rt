@@ -7,6 +7,7 @@ use crate::group::Group;
 use crate::memory;
 use crate::place;
 use crate::report;
+use programs::print;
 use sha256::bytes;
 use user::call::Found;
 use user::call::Step;
@@ -14,7 +15,7 @@ use user::call::Step;
 // From now on every server but one keeps two copies.
 pub fn begin(g: Group, honest: u32, memory: &[u8], servers: &mut [u8]) -> Group {
     if g.forked {
-        report::text(b"  the log is forked already\n");
+        print::text(b"  the log is forked already\n");
         return g;
     }
     place::copy(servers);
@@ -56,7 +57,7 @@ pub fn notice(g: Group, own: u16, step: Step, operation: u32, open_before: bool)
     }
     if step.code == 11 {
         if open_before {
-            report::text(
+            print::text(
                 b"  a write was open, which can be the reason: this alone does not show the fork\n",
             );
             return;

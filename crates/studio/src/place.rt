@@ -3,12 +3,10 @@
 ghost use mathlib.Core.Path.{_≡_};
 ghost use Prim.Native.Nat.{_<_};
 ghost use lib.ListN.{length};
-use crate::group;
 use crate::group::Group;
-use server::Head;
-use server::Out;
+use programs::key;
+use programs::place;
 use sha256::bytes;
-use tree::digest;
 
 // The place that a user's request to server `own` goes to: the second copy's for an even user of a forked log, unless the server
 // follows the rules.
@@ -55,12 +53,12 @@ pub fn serve(
 fn call(n: u8, own: u8, users: &[u8], place: &mut [u8], request: &[u8], answer: &mut [u8]) -> usize
     requires { ⌜ length (now place) ≡ 65536 ⌝ }
 {
-    let head = head_of(place);
-    let used = bytes::u32_at(place, 40) as usize;
+    let head = place::head_of(place);
+    let used = place::used_of(place) as usize;
     let out = server::serve(
         n,
         own,
-        group::LOG,
+        key::LOG,
         users,
         head,
         &mut place[48..65536],
@@ -68,30 +66,8 @@ fn call(n: u8, own: u8, users: &[u8], place: &mut [u8], request: &[u8], answer: 
         request,
         answer,
     );
-    save(out, place);
+    place::save(out, place);
     out.answered
-}
-
-// The head at the front of a place.
-fn head_of(place: &[u8]) -> Head {
-    let digest = digest::piece(bytes::from(place, 8), 0);
-    Head {
-        position: bytes::u32_at(place, 0),
-        level: bytes::byte_at(place, 4),
-        author: bytes::u16_at(place, 6),
-        digest,
-    }
-}
-
-// Writes the head and the used length to the front of a place.
-fn save(out: Out, place: &mut [u8]) {
-    let head = out.head;
-    let d = head.digest;
-    let p = bytes::be4(head.position);
-    let a = bytes::be2(head.author);
-    let first = [p[0], p[1], p[2], p[3], head.level, 0, a[0], a[1]];
-    bytes::put2(place, 0, &first, &d);
-    bytes::put(place, 40, &bytes::be4((out.used % 4294967296) as u32));
 }
 
 // The memory of all places, zero. The `ensures` gives only the length, so that no proof computes with the list.

@@ -7,26 +7,16 @@ use crate::script;
 use crate::script::Command;
 use crate::script::Fault;
 use crate::sentence;
-use libc::STDOUT_FILENO;
+use programs::print;
 use sha256::bytes;
 use tree::label;
 use user::call::Settled;
 
-pub fn text(s: &[u8]) {
-    io::write_all(STDOUT_FILENO, s);
-}
-
-// A number, after what it is.
-fn number(what: &[u8], n: usize) {
-    text(what);
-    io::print_decimal(STDOUT_FILENO, n as u64);
-}
-
 // A line of the script, before what it does.
 pub fn echo(line: &[u8]) {
-    text(b"> ");
-    text(line);
-    text(b"\n");
+    print::text(b"> ");
+    print::text(line);
+    print::text(b"\n");
 }
 
 // Says what is wrong with a line, and whether anything is.
@@ -57,39 +47,39 @@ pub fn fault(at: usize, c: Command, servers: u8) -> bool {
 }
 
 fn said(at: usize, what: &[u8]) {
-    number(b"  line ", at);
-    text(b": ");
-    text(what);
-    text(b"\n");
+    print::number(b"  line ", at);
+    print::text(b": ");
+    print::text(what);
+    print::text(b"\n");
 }
 
 fn range(at: usize, what: &[u8], least: u32, most: u32) {
-    number(b"  line ", at);
-    text(b": ");
-    text(what);
-    number(b"", least as usize);
-    number(b" .. ", most as usize);
-    text(b"\n");
+    print::number(b"  line ", at);
+    print::text(b": ");
+    print::text(what);
+    print::number(b"", least as usize);
+    print::number(b" .. ", most as usize);
+    print::text(b"\n");
 }
 
 // A new log.
 pub fn begun(g: Group) {
-    number(b"  a new log on ", g.servers as usize);
-    text(b" servers; users 1, 2 and 3 have version 0\n");
+    print::number(b"  a new log on ", g.servers as usize);
+    print::text(b" servers; users 1, 2 and 3 have version 0\n");
 }
 
 // A call: its code and the server's, how many answers it took in, and what is kept.
 pub fn call(done: Done) {
     let step = done.step;
     let kept = done.kept;
-    number(b"  code ", step.code as usize);
+    print::number(b"  code ", step.code as usize);
     if step.code == 11 {
-        number(b", server's code ", step.refusal as usize);
+        print::number(b", server's code ", step.refusal as usize);
     }
-    number(b", answers ", done.answers);
-    number(b", version ", kept.version as usize);
-    number(b", next signature ", kept.number as usize);
-    text(b"\n");
+    print::number(b", answers ", done.answers);
+    print::number(b", version ", kept.version as usize);
+    print::number(b", next signature ", kept.number as usize);
+    print::text(b"\n");
     sentence::refusal(step.code, step.refusal);
 }
 
@@ -100,15 +90,15 @@ pub fn cut(done: Done) {
     if step.ended {
         return;
     }
-    number(b"  the request to server ", step.server as usize);
+    print::number(b"  the request to server ", step.server as usize);
     if kept.opened {
-        number(
+        print::number(
             b" is lost; the write is open at position ",
             next(kept.version) as usize,
         );
-        text(b"\n");
+        print::text(b"\n");
     } else {
-        text(b" is lost; the write was not open yet, and nothing of it is kept\n");
+        print::text(b" is lost; the write was not open yet, and nothing of it is kept\n");
     }
 }
 
@@ -126,9 +116,9 @@ pub fn refused_read(position: u32, done: Done) -> bool {
     if step.code == 0 {
         return false;
     }
-    number(b"  reading position ", position as usize);
-    number(b": code ", step.code as usize);
-    text(b"\n");
+    print::number(b"  reading position ", position as usize);
+    print::number(b": code ", step.code as usize);
+    print::text(b"\n");
     sentence::refusal(step.code, step.refusal);
     true
 }
@@ -141,87 +131,87 @@ pub fn entry(position: u32, f: Fetched, entry: &[u8; 1024]) {
     if step.code != 0 {
         return;
     }
-    number(b"  position ", position as usize);
-    number(b" by user ", found.author as usize);
-    text(b": ");
+    print::number(b"  position ", position as usize);
+    print::number(b" by user ", found.author as usize);
+    print::text(b": ");
     let target = board::target(entry);
     if target == 0 {
-        text(bytes::from(bytes::front(entry, found.length as usize), 1));
+        print::text(bytes::from(bytes::front(entry, found.length as usize), 1));
     } else {
-        number(b"strike ", target as usize);
+        print::number(b"strike ", target as usize);
     }
-    text(b"\n");
+    print::text(b"\n");
 }
 
 // Above a board.
 pub fn board(own: u16, n: usize) {
-    number(b"  the board of user ", own as usize);
-    number(b" after ", n);
-    text(b" entries\n");
+    print::number(b"  the board of user ", own as usize);
+    print::number(b" after ", n);
+    print::text(b" entries\n");
 }
 
 // Whether an operation is settled. Only an own one is.
 pub fn settled(g: Group, own: u16, position: u32, version: u32, s: Settled, author: u16) {
-    number(b"  code ", s.code as usize);
-    number(b", version ", version as usize);
+    print::number(b"  code ", s.code as usize);
+    print::number(b", version ", version as usize);
     wait(b", ", g, position);
-    text(b"\n");
+    print::text(b"\n");
     sentence::refusal(s.code, 0);
     if s.code != 0 {
         return;
     }
-    number(b"  operation ", position as usize);
-    number(b" by user ", author as usize);
+    print::number(b"  operation ", position as usize);
+    print::number(b" by user ", author as usize);
     if author != own {
-        text(b" is not this user's own\n");
+        print::text(b" is not this user's own\n");
         return;
     }
     if s.settled {
-        text(b" is settled\n");
+        print::text(b" is settled\n");
     } else {
-        text(b" is not settled yet\n");
+        print::text(b" is not settled yet\n");
     }
 }
 
 // Q of a position, after what comes before it.
 fn wait(before: &[u8], g: Group, position: u32) {
-    text(before);
-    number(b"Q(", position as usize);
-    number(b", ", g.servers as usize);
-    number(b") = ", label::wait(position, g.servers) as usize);
+    print::text(before);
+    print::number(b"Q(", position as usize);
+    print::number(b", ", g.servers as usize);
+    print::number(b") = ", label::wait(position, g.servers) as usize);
 }
 
 // A fork that begins.
 pub fn forked(g: Group) {
-    number(b"  every server but ", g.honest as usize);
-    text(b" keeps two copies from now on: one for users 1 and 3, one for user 2\n");
-    number(b"  positions up to ", g.common as usize);
-    number(
+    print::number(b"  every server but ", g.honest as usize);
+    print::text(b" keeps two copies from now on: one for users 1 and 3, one for user 2\n");
+    print::number(b"  positions up to ", g.common as usize);
+    print::number(
         b" are in both; the first that can differ is ",
         next(g.common) as usize,
     );
     wait(b", and ", g, next(g.common));
-    text(b"\n");
+    print::text(b"\n");
 }
 
 // A user that a refusal shows the fork.
 pub fn noticed(g: Group, own: u16, operation: u32) {
-    number(b"  fork at position ", next(g.common) as usize);
-    number(b": user ", own as usize);
-    number(b" notices it at operation ", operation as usize);
+    print::number(b"  fork at position ", next(g.common) as usize);
+    print::number(b": user ", own as usize);
+    print::number(b" notices it at operation ", operation as usize);
     wait(b"; ", g, next(g.common));
-    text(b"\n");
+    print::text(b"\n");
 }
 
 // Views that differ from position d on, with so many operations from there to the end of the shorter one.
 pub fn difference(g: Group, a: u16, b: u16, d: u32, operations: usize) {
-    number(b"  users ", a as usize);
-    number(b" and ", b as usize);
-    number(b" read position ", d as usize);
-    number(
+    print::number(b"  users ", a as usize);
+    print::number(b" and ", b as usize);
+    print::number(b" read position ", d as usize);
+    print::number(
         b" differently; operations from there to the end of the shorter view: ",
         operations,
     );
     wait(b", at most ", g, d);
-    text(b"\n");
+    print::text(b"\n");
 }

@@ -10,6 +10,8 @@ use crate::report;
 use crate::script;
 use crate::script::Command;
 use crate::script::Word;
+use programs::key;
+use programs::print;
 use sha256::bytes;
 
 // Runs a line, and answers the group after it. A line with a fault changes nothing.
@@ -93,7 +95,7 @@ fn read(g: Group, own: u16, position: u32, memory: &[u8], servers: &mut [u8], us
 
 fn settled(g: Group, own: u16, position: u32, memory: &[u8], servers: &mut [u8], users: &[u8]) {
     let kept = memory::kept_of(own, memory);
-    let s = user::settled::settled(g.servers, own, group::LOG, users, kept, position);
+    let s = user::settled::settled(g.servers, own, key::LOG, users, kept, position);
     let mut entry = [0u8; 1024];
     let f = call::read(g, own, kept, position, servers, users, &mut entry);
     let found = f.found;
@@ -131,7 +133,7 @@ fn resume(
     if memory::is_open(own, memory) {
         insert(g, own, text, 99, memory, servers, users, trees);
     } else {
-        report::text(b"  this user has no open write\n");
+        print::text(b"  this user has no open write\n");
     }
 }
 

@@ -1,9 +1,9 @@
 // The answers that a user takes in: the servers', and made-up ones.
 use crate::memory;
 use crate::step;
-use cases::key;
-use cases::line;
-use cases::place as server_place;
+use programs::key;
+use programs::line;
+use programs::place as server_place;
 use sha256::bytes;
 use tree::digest;
 use tree::message;

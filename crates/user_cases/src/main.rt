@@ -7,8 +7,8 @@ mod report;
 mod row;
 mod step;
 
-use cases::file;
-use cases::key;
+use programs::file;
+use programs::key;
 use sha256::bytes;
 
 fn main() {

@@ -1,8 +1,8 @@
 // What is printed of a place after a step.
 use crate::memory;
 use crate::step;
-use cases::key;
-use cases::print;
+use programs::key;
+use programs::print;
 use sha256::bytes;
 use user::settled;
 

@@ -4,8 +4,8 @@ use crate::answer;
 use crate::memory;
 use crate::report;
 use crate::step;
-use cases::line;
-use cases::print;
+use programs::line;
+use programs::print;
 use sha256::bytes;
 
 // Does what a line says, and prints the line's name and what came of it.

@@ -1,7 +1,7 @@
 // One step of a user on its place: the start of a call, or an answer that is taken in.
 use crate::memory;
-use cases::key;
-use cases::line;
+use programs::key;
+use programs::line;
 use sha256::bytes;
 use user::call::Kept;
 use user::call::Read;

@@ -10,8 +10,8 @@ use Rattle.studio.proofs.place.call.Tie as tie
 head-of-requires : tie.Need-head-of-requires
 head-of-requires c κs = search needs
 
-u32-at-requires : tie.Need-u32-at-requires
-u32-at-requires c κs = search needs
+used-of-requires : tie.Need-used-of-requires
+used-of-requires c κs = search needs
 
 cast-used : tie.Need-cast-used
 cast-used c = search needs
@@ -45,7 +45,7 @@ call-spec =
     tie.close
     (tie.spec
     head-of-requires
-    u32-at-requires
+    used-of-requires
     cast-used
     sub-serve
     part-serve-start

@@ -3,8 +3,8 @@ use borrow.Author.Needs.{needs}
 use Prim.Native.Nat.{_≤_, _-_}
 use mathlib.Core.Path.{_≡_}
 use lib.ListN.{length}
-use Rattle.cases.proofs.line.numbers.Statement.{statement}
-use Rattle.cases.proofs.line.numbers.Tie as tie
+use Rattle.programs.proofs.line.numbers.Statement.{statement}
+use Rattle.programs.proofs.line.numbers.Tie as tie
 
 abbrev Inv-loop : tie.InvT-loop
 Inv-loop text f₀ k₀ i₀ f k i = (i ≤ length text) × (length f ≡ 16)
