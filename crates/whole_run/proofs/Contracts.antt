@@ -12,6 +12,7 @@ use Rattle.user.specs.declared.call.Kept.{Kept}
 use Rattle.user.specs.declared.call.Write.{Write}
 use Rattle.user.specs.Update.{UpdateLeft, freshUpdate, updateSetup, updateGoes, updateRefused, updateStarted}
 use Rattle.user.specs.Write.{Key, WriteLent, WriteLeft, writeRoom, writeStartChecks, freshWrite, heldEntry, writeAsks, writeWaits, writeRefused, writeStarted}
+use Rattle.user.specs.Read.{ReadLeft, readMemory, readChecks, freshRead, readAsks, readRefused, readStarted}
 use Rattle.user.specs.Writing.{keyOf, lentOf}
 use Rattle.user.proofs.UpdateRules.{endedLeft, askingLeft, by-goes}
 use Rattle.user.proofs.Writes.{body-first}
@@ -80,3 +81,18 @@ module _ (s : Settings) (k : Kept) (path signature hashes held request entry ran
       ≡ writeLeftWith signature hashes (cond o (writeAsks s k fresh touched) (writeWaits k fresh touched (updateGoes s k freshUpdate [] request))))
       (k .opened) (λ _. resumes) (λ _. waits))
       (λ _. refl)
+
+-- Read::start, which its contract states for every hashes and held entry, and the exports for none
+abbrev pub readLeftWith : List ℕ → List ℕ → ReadLeft → ReadLeft
+readLeftWith hashes held l =
+    record { step = l .step; call = l .call; found = l .found; lent = readMemory hashes held (l .lent .request) (l .lent .entry) }
+
+pub read-start : (s : Settings) (k : Kept) (hashes held request entry : List ℕ) (i : ℕ)
+    → readStarted s k (readMemory hashes held request entry) i ≡ readLeftWith hashes held (readStarted s k (readMemory [] [] request entry) i)
+unfolding readStarted readChecks readAsks readRefused
+read-start s k hashes held request entry i =
+    let code : ℕ = firstCode (readChecks s k i (readMemory [] [] request entry)) in
+    by-bool
+    (λ b. cond b (readAsks s k (freshRead i) (readMemory hashes held request entry)) (readRefused code [] (freshRead i) (readMemory hashes held request entry))
+    ≡ readLeftWith hashes held (cond b (readAsks s k (freshRead i) (readMemory [] [] request entry)) (readRefused code [] (freshRead i) (readMemory [] [] request entry))))
+    (eqb code 0) (λ _. refl) (λ _. refl)
