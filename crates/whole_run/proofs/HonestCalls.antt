@@ -43,7 +43,7 @@ pub record ToOpen (c : Setup) (L : ℕ → Item) (w g a left : ℕ) (entry : Lis
   pub number : u .kept .number < 1024
   pub position : w < 1048576
   pub target : targetFits w entry ≡ true
-  pub room : (s : ℕ) → 1 ≤ s → y s .used + storedBy (c .servers) (suc w) (length entry) s ≤ length (y s .store)
+  pub room : (s : ℕ) → 1 ≤ s → s ≤ c .servers → y s .used + storedBy (c .servers) (suc w) (length entry) s ≤ length (y s .store)
 
 -- and once it is open, before the answer to its request
 pub record Opened (c : Setup) (L : ℕ → Item) (w g a left : ℕ) (u : User) (call : Write) : Type 0 where

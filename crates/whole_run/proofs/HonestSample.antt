@@ -68,7 +68,7 @@ new =
       number = omega arith;
       position = omega arith;
       target = refl;
-      room = λ s. let l : length (replicate {A = ℕ} 8000 0) ≡ 8000 = length-replicate {A = ℕ} 8000 0 in omega (arith, little 2 1 2 s 3, l);
+      room = λ s one few. let l : length (replicate {A = ℕ} 8000 0) ≡ 8000 = length-replicate {A = ℕ} 8000 0 in omega (arith, little 2 1 2 s 3, l);
     }
 
 valid : ValidCall small start 1 first

@@ -111,9 +111,9 @@ module _ (c : Setup) (range : InRange c) (r : Run) (a : ℕ) (m : Lent) (entry r
           position = to-open .position;
           target = to-open .target;
           room =
-              λ s low.
+              λ s low high.
               subst (λ (y : Server). y .used + storedBy (c .servers) (suc (o .w)) (length entry) s ≤ length (y .store)) (sym (answer-now .keeps s))
-              (to-open .room s low);
+              (to-open .room s low high);
         }
 
     then-call : WriteCall c (o .log) (o .w) (o .g) a left entry then (arrives c x a .servers)
@@ -264,7 +264,7 @@ module _ (c : Setup) (range : InRange c) (r : Run) (a : ℕ) (m : Lent) (entry r
               λ _ s sl sh.
               subst (RoomLeft c M (o .w) 0 s) (sym (answer-now .keeps s))
               (subst (λ (e : List ℕ). x .servers s .used + storedBy (c .servers) (suc (o .w)) (length e) s ≤ length (x .servers s .store) + 0) (sym (open-ok .entry))
-              (omega (arith, to-open .room s sl)));
+              (omega (arith, to-open .room s sl sh)));
           shut = λ t. not-both true refl t;
           fits = omega arith;
           items = items-stay c (o .log) M (o .w) old (o .good .items);

@@ -125,7 +125,7 @@ module _ (c : Setup) (range : InRange c) (r : Run) (a : ℕ) (m : Lent) (entry r
           number = given .new shut .number;
           position = rw (between .holds .count) (given .new shut .position);
           target = rw (between .holds .count) (given .new shut .target);
-          room = λ s one. rw (between .holds .count) (given .new shut .room s);
+          room = λ s one few. rw (between .holds .count) (given .new shut .room s one few);
         }
 
     new-call : WriteCall c (between .log) (between .w) (between .g) a n entry next (r .network .servers)
