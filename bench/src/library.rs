@@ -4,9 +4,11 @@
 use crate::lms::Signer;
 use crate::plain_server::HEAD;
 use crate::server::{Served, Settings};
+use crate::user::{Asked, Lent, SettledAnswer, Signing, KEPT};
 
 mod raw {
     use crate::server::Served;
+    use crate::user::{Asked, SettledAnswer};
 
     extern "C" {
         pub fn kozbrax_sha256(message: *const u8, message_len: usize, out: *mut u8, out_len: usize) -> u32;
@@ -53,6 +55,81 @@ mod raw {
             answer: *mut u8,
             answer_len: usize,
         ) -> Served;
+        pub fn kozbrax_update_start(
+            servers: u32,
+            own: u32,
+            log: *const u8,
+            users: *const u8,
+            users_len: usize,
+            kept: *const u8,
+            call: *mut u8,
+            request: *mut u8,
+            request_len: usize,
+        ) -> Asked;
+        pub fn kozbrax_write_start(
+            servers: u32,
+            own: u32,
+            log: *const u8,
+            users: *const u8,
+            users_len: usize,
+            tree: *const u8,
+            tree_len: usize,
+            entry: *const u8,
+            entry_len: usize,
+            randomizer: *const u8,
+            kept: *const u8,
+            path: *const u8,
+            call: *mut u8,
+            held: *mut u8,
+            request: *mut u8,
+            request_len: usize,
+        ) -> Asked;
+        pub fn kozbrax_read_start(
+            servers: u32,
+            own: u32,
+            log: *const u8,
+            users: *const u8,
+            users_len: usize,
+            position: u32,
+            kept: *const u8,
+            call: *mut u8,
+            request: *mut u8,
+            request_len: usize,
+            entry: *const u8,
+            entry_len: usize,
+        ) -> Asked;
+        pub fn kozbrax_take(
+            servers: u32,
+            own: u32,
+            log: *const u8,
+            users: *const u8,
+            users_len: usize,
+            id: *const u8,
+            seed: *const u8,
+            tree: *const u8,
+            tree_len: usize,
+            answer: *const u8,
+            answer_len: usize,
+            kept: *mut u8,
+            path: *mut u8,
+            signature: *mut u8,
+            call: *mut u8,
+            hashes: *mut u8,
+            held: *mut u8,
+            request: *mut u8,
+            request_len: usize,
+            entry: *mut u8,
+            entry_len: usize,
+        ) -> Asked;
+        pub fn kozbrax_settled(
+            servers: u32,
+            own: u32,
+            log: *const u8,
+            users: *const u8,
+            users_len: usize,
+            kept: *const u8,
+            position: u32,
+        ) -> SettledAnswer;
     }
 }
 
@@ -128,6 +205,123 @@ pub fn server(
             request.len(),
             answer.as_mut_ptr(),
             answer.len(),
+        )
+    }
+}
+
+/// Start of an Update.
+pub fn update_start(settings: &Settings, lent: &mut Lent) -> Asked {
+    // SAFETY: as for `server`, here and in the user's other calls: the arrays have the lengths that the functions read and
+    // write, and what is written is borrowed alone.
+    unsafe {
+        raw::kozbrax_update_start(
+            settings.servers,
+            settings.own,
+            settings.log.as_ptr(),
+            settings.users.as_ptr(),
+            settings.users.len(),
+            lent.kept.as_ptr(),
+            lent.call.as_mut_ptr(),
+            lent.request.as_mut_ptr(),
+            lent.request.len(),
+        )
+    }
+}
+
+/// Start of a Write, new or resumed.
+pub fn write_start(
+    settings: &Settings,
+    signing: &Signing,
+    entry: &[u8],
+    randomizer: &[u8; 32],
+    lent: &mut Lent,
+) -> Asked {
+    // SAFETY: as for `update_start`.
+    unsafe {
+        raw::kozbrax_write_start(
+            settings.servers,
+            settings.own,
+            settings.log.as_ptr(),
+            settings.users.as_ptr(),
+            settings.users.len(),
+            signing.tree.as_ptr(),
+            signing.tree.len(),
+            entry.as_ptr(),
+            entry.len(),
+            randomizer.as_ptr(),
+            lent.kept.as_ptr(),
+            lent.path.as_ptr(),
+            lent.call.as_mut_ptr(),
+            lent.held.as_mut_ptr(),
+            lent.request.as_mut_ptr(),
+            lent.request.len(),
+        )
+    }
+}
+
+/// Start of a Read.
+pub fn read_start(settings: &Settings, position: u32, lent: &mut Lent) -> Asked {
+    // SAFETY: as for `update_start`.
+    unsafe {
+        raw::kozbrax_read_start(
+            settings.servers,
+            settings.own,
+            settings.log.as_ptr(),
+            settings.users.as_ptr(),
+            settings.users.len(),
+            position,
+            lent.kept.as_ptr(),
+            lent.call.as_mut_ptr(),
+            lent.request.as_mut_ptr(),
+            lent.request.len(),
+            lent.entry.as_ptr(),
+            lent.entry.len(),
+        )
+    }
+}
+
+/// One answer to the call's last request.
+pub fn take(settings: &Settings, signing: &Signing, answer: &[u8], lent: &mut Lent) -> Asked {
+    // SAFETY: as for `update_start`.
+    unsafe {
+        raw::kozbrax_take(
+            settings.servers,
+            settings.own,
+            settings.log.as_ptr(),
+            settings.users.as_ptr(),
+            settings.users.len(),
+            signing.id.as_ptr(),
+            signing.seed.as_ptr(),
+            signing.tree.as_ptr(),
+            signing.tree.len(),
+            answer.as_ptr(),
+            answer.len(),
+            lent.kept.as_mut_ptr(),
+            lent.path.as_mut_ptr(),
+            lent.signature.as_mut_ptr(),
+            lent.call.as_mut_ptr(),
+            lent.hashes.as_mut_ptr(),
+            lent.held.as_mut_ptr(),
+            lent.request.as_mut_ptr(),
+            lent.request.len(),
+            lent.entry.as_mut_ptr(),
+            lent.entry.len(),
+        )
+    }
+}
+
+/// Whether the operation at a position is settled.
+pub fn settled(settings: &Settings, kept: &[u8; KEPT], position: u32) -> SettledAnswer {
+    // SAFETY: as for `update_start`.
+    unsafe {
+        raw::kozbrax_settled(
+            settings.servers,
+            settings.own,
+            settings.log.as_ptr(),
+            settings.users.as_ptr(),
+            settings.users.len(),
+            kept.as_ptr(),
+            position,
         )
     }
 }

@@ -95,9 +95,9 @@ fn not_valid(key: &[u8], text: &[u8], signature: &[u8], what: &str) {
 
 /// A key that both sides agree on.
 pub struct Key {
-    seed: [u8; 32],
-    id: [u8; 16],
-    tree: Vec<u8>,
+    pub seed: [u8; 32],
+    pub id: [u8; 16],
+    pub tree: Vec<u8>,
     pub public: Vec<u8>,
 }
 

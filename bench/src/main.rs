@@ -8,7 +8,9 @@ mod plain_server;
 mod sample;
 mod server;
 mod stack;
+mod store;
 mod timing;
+mod user;
 
 fn main() {
     let subject = std::env::args().nth(1).unwrap_or_default();
@@ -17,8 +19,10 @@ fn main() {
         "hash" => hash::run(),
         "lms" => lms::run(),
         "server" => server::run(seed),
+        "store" => store::run(seed),
+        "user" => user::run(seed),
         _ => {
-            eprintln!("usage: cargo run --release -- SUBJECT, where SUBJECT is: hash, lms, server [SEED]");
+            eprintln!("usage: cargo run --release -- SUBJECT, where SUBJECT is: hash, lms, server [SEED], store [SEED], user [SEED]");
             std::process::exit(2);
         }
     }

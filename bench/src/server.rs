@@ -3,9 +3,9 @@ mod case;
 mod damage;
 mod exchange;
 mod honest;
-mod message;
-mod speed;
-mod sweeps;
+pub mod message;
+pub mod speed;
+pub mod sweeps;
 
 use crate::lms::Key;
 use crate::plain_server::HEAD;
@@ -23,7 +23,7 @@ const STEPS: usize = 120;
 const OFTEN: usize = 2000;
 const OFTEN_FOR_A_KIND: usize = 300;
 
-/// What a server is set up with.
+/// What a server or a user is set up with; own is its number.
 pub struct Settings<'a> {
     pub servers: u32,
     pub own: u32,

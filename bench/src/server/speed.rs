@@ -4,8 +4,8 @@ use super::message::{signed_body, Message};
 use super::{Serve, Served, Settings, LIBRARY, PLAIN};
 use crate::lms::Key;
 use crate::plain_lms::SIGNATURE;
-use crate::plain_server::{lg, owner, COMMIT, HASH, HEAD, LONGEST_ANSWER, NODE, OPERATION, PUT_NODE, PUT_OPERATION};
-use crate::plain_server::{RECORD, RECORD_HEADER, REQUEST_HEADER, RESERVE, SIGNED_MARK, STATUS};
+use crate::plain_server::{lg, owner, COMMIT, HASH, HEAD, LAST_POSITION, LONGEST_ANSWER, NODE, OPERATION, PUT_NODE};
+use crate::plain_server::{PUT_OPERATION, RECORD, RECORD_HEADER, REQUEST_HEADER, RESERVE, SIGNED_MARK, STATUS};
 use crate::sample::Random;
 use crate::timing::{Clock, Race};
 use crate::{library, plain_lms, stack};
@@ -13,10 +13,20 @@ use std::cell::RefCell;
 use std::hint::black_box;
 
 const ROUNDS: usize = 100;
-const SERVERS: u32 = 4;
+pub const SCANS: &str =
+    "nanoseconds of processor time for each stored record of a call that scans them: best and median of 100 rounds";
+
+/// How many servers there are, and the level of the node that a Node or PutNode is about: its owner is the server.
+#[derive(Clone, Copy)]
+pub struct Place {
+    pub servers: u32,
+    pub level: u8,
+}
+
+const PLACE: Place = Place { servers: 4, level: 1 };
 
 /// The head's position, full at each of its levels, behind all that is stored for the timing.
-const P: u32 = 1 << 19;
+pub const P: u32 = LAST_POSITION;
 
 /// The records of a store one after the other, by kind and body length, again from the start when they are through.
 const MIXES: [(&str, &[(u8, usize)]); 5] = [
@@ -28,13 +38,10 @@ const MIXES: [(&str, &[(u8, usize)]); 5] = [
 ];
 
 pub fn print(key: &Key) {
-    println!("nanoseconds of processor time for each stored record of a call that scans them: best and median of {ROUNDS} rounds");
+    println!("{SCANS}");
     for count in [1000, 20_000] {
         for (name, mix) in MIXES {
-            let store = store(count, mix);
-            for call in [("Status", STATUS, 0), ("missing Node", NODE, 8), ("new PutNode", PUT_NODE, 0)] {
-                print_scan(key, &store, count, name, call);
-            }
+            print_scans(key, PLACE, &store(count, mix), count, name);
         }
     }
     print_commit(key);
@@ -58,13 +65,15 @@ fn store(count: usize, mix: &[(u8, usize)]) -> Vec<u8> {
 }
 
 /// A call that is valid apart from what is not stored, on the store given and a free part for one record of any kind.
-fn call(key: &Key, kind: u8, records: &[u8]) -> Case {
+fn call(key: &Key, place: Place, kind: u8, records: &[u8]) -> Case {
     let mut random = Random::new(u64::from(kind));
+    let servers = place.servers;
     let l = match kind {
-        NODE | PUT_NODE => 1,
+        STATUS | NODE | PUT_NODE => place.level,
         COMMIT | RECORD => lg(P) as u8,
         _ => 0,
     };
+    let own = owner(P, l, servers);
     let log = random.array();
     let digest = random.array();
     let body = match kind {
@@ -76,8 +85,8 @@ fn call(key: &Key, kind: u8, records: &[u8]) -> Case {
     };
     let (p, l) = if kind == STATUS { (0, 0) } else { (P, l) };
     let mut case = Case {
-        servers: SERVERS,
-        own: if kind == STATUS { 1 } else { owner(P, l, SERVERS) },
+        servers,
+        own,
         log,
         users: key.public.clone(),
         head: [0; HEAD],
@@ -117,22 +126,25 @@ fn race(case: Case, code: u32) -> Race {
     race
 }
 
-fn print_scan(key: &Key, records: &[u8], count: usize, mix: &str, (name, kind, code): (&str, u8, u32)) {
-    let race = race(call(key, kind, records), code);
+/// Nanoseconds for each record of a store, by three calls that scan it.
+pub fn print_scans(key: &Key, place: Place, records: &[u8], count: usize, mix: &str) {
     let each = |seconds: f64| seconds * 1e9 / count as f64;
-    let ((best, plain_best), (median, plain_median)) = (race.best(), race.medians());
-    println!(
-        "  {count:>6} records, {mix:>25}, {name:>12}: library {:>6.2}, {:>6.2}; plain {:>6.2}, {:>6.2}",
-        each(best),
-        each(median),
-        each(plain_best),
-        each(plain_median)
-    );
+    for (name, kind, code) in [("Status", STATUS, 0), ("missing Node", NODE, 8), ("new PutNode", PUT_NODE, 0)] {
+        let race = race(call(key, place, kind, records), code);
+        let ((best, plain_best), (median, plain_median)) = (race.best(), race.medians());
+        println!(
+            "  {count:>6} records, {mix:>25}, {name:>12}: library {:>6.2}, {:>6.2}; plain {:>6.2}, {:>6.2}",
+            each(best),
+            each(median),
+            each(plain_best),
+            each(plain_median)
+        );
+    }
 }
 
 /// A Commit that is accepted and stored, with nothing stored before, beside a check of its signature alone.
 fn print_commit(key: &Key) {
-    let case = call(key, COMMIT, &[]);
+    let case = call(key, PLACE, COMMIT, &[]);
     let (digest, signature) = case.request[REQUEST_HEADER..].split_at(HASH);
     let text = [&SIGNED_MARK[..], &case.log, &P.to_be_bytes(), digest].concat();
     let check = |check: fn(&[u8], &[u8], &[u8]) -> u32| {
@@ -170,14 +182,14 @@ fn print_stack(key: &Key) {
         ("PutNode", PUT_NODE, PUT_OPERATION),
         ("Commit", COMMIT, PUT_NODE),
     ] {
-        let found = call(key, stored, &[]);
+        let found = call(key, PLACE, stored, &[]);
         let body = found.request[REQUEST_HEADER..].to_vec();
         let l = found.request[25];
         let record = Message { kind: stored, author: 1, p: P, l, body }.record();
-        let mut case = call(key, kind, &[store(100, MIXES[4].1), record].concat());
+        let mut case = call(key, PLACE, kind, &[store(100, MIXES[4].1), record].concat());
         if kind == NODE {
             case.request[25] = l;
-            case.own = owner(P, l, SERVERS);
+            case.own = owner(P, l, PLACE.servers);
         }
         assert_eq!(again(&mut case, LIBRARY).code, 0, "{name}");
         let used = stack::of_call(LIBRARY, nothing as Serve, |serve| {

@@ -229,7 +229,7 @@ impl Sweeps<'_> {
 }
 
 /// 0 to 20, the powers of two with their neighbours, and the positions about the last one.
-fn positions() -> Vec<u32> {
+pub fn positions() -> Vec<u32> {
     let powers = (5..32).map(|k| 1 << k).flat_map(|power: u32| power - 1..=power + 1);
     (0..=20).chain(powers).chain([LAST_POSITION - 2, LAST_POSITION + 2, u32::MAX]).collect()
 }
