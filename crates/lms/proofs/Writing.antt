@@ -4,10 +4,10 @@ use mathlib.Core.List.{List, [], _++_, append-assoc, append-nil}
 use Prim.Native.Nat.{_*_, _<_, ℕ, _+_, _-_, _≤_}
 use native.Mathlib.Nat.{add-zero}
 use native.Mathlib.Omega.{arith}
-use lib.ListN.{length, take, drop, length-append, take-append-drop, drop-of-length-le}
+use lib.ListN.{length, take, drop, length-append, take-append-drop}
 use lib.Seq.{take-at, drop-at, drop-drop, length-take-le}
 use Rattle.sha256.specs.Bytes.{written}
-use Rattle.sha256.proofs.Laws.{be-length, written-fits, written-twice}
+use Rattle.sha256.proofs.Laws.{be-length, written-fits, written-after, written-whole}
 use Rattle.lms.specs.declared.Ots.{Ots}
 use Rattle.lms.specs.declared.Lms.{Lms}
 use Rattle.lms.specs.Tree.{publicKey}
@@ -39,17 +39,6 @@ module _ (d s : List ℕ) (at : ℕ) (fits : at + length s ≤ length d) where
 pub written-none : (d : List ℕ) (at : ℕ) → at ≤ length d → written d at [] ≡ d
 written-none d at h = written-fits d at [] (omega arith) ∙ rw (append-nil, add-zero) (take-append-drop at d)
 
--- two parts side by side are one
-pub written-after : (d a b : List ℕ) (at to : ℕ) → at + length a ≡ to → to + length b ≤ length d
-    → written (written d at a) to b ≡ written d at (a ++ b)
-written-after d a b at to t h = rw (← t) (written-twice d at a b (omega arith))
-
--- a buffer filled whole
-pub written-whole : (d s : List ℕ) → length s ≡ length d → written d 0 s ≡ s
-written-whole d s h =
-    let e : drop (0 + length s) d ≡ [] = drop-of-length-le d {i = 0 + length s} (omega arith) in
-    written-fits d 0 s (omega arith) ∙ rw e (append-nil s)
-
 -- the 22 bytes before a hashed string's contents, laid part by part
 pub prefix-laid : (I b d z s₁ s₂ s₃ : List ℕ) (r x : ℕ) → length I ≡ 16 → length z ≡ 22
     → s₁ ≡ written z 0 I → b ≡ u32str r → s₂ ≡ written s₁ 16 b → d ≡ u16str x → s₃ ≡ written s₂ 20 d → s₃ ≡ prefix I r x
@@ -64,12 +53,6 @@ prefix-laid I b d z s₁ s₂ s₃ r x li lz e₁ eb e₂ ed e₃ =
     let three : written (written z 0 (I ++ u32str r)) 20 (u16str x) ≡ written z 0 (I ++ u32str r ++ u16str x) =
     written-after z (I ++ u32str r) (u16str x) 0 20 (omega arith) (omega arith) in
     rw (e₃, ed, e₂, eb, e₁, two, three) (written-whole z (I ++ u32str r ++ u16str x) (omega arith))
-
--- an array filled by two parts
-pub filled-twice : (z a b s₁ s₂ : List ℕ) (n : ℕ) → length a ≡ n → n + length b ≡ length z → s₁ ≡ written z 0 a → s₂ ≡ written s₁ n b → s₂ ≡ a ++ b
-filled-twice z a b s₁ s₂ n la lz e₁ e₂ =
-    let l : length (a ++ b) ≡ length z = simp length-append (omega arith) in
-    rw (e₂, e₁, written-after z a b 0 n (omega arith) (omega arith)) (written-whole z (a ++ b) l)
 
 -- one more string of 32 bytes, behind those that are laid
 pub laid-more : (d : List ℕ) (S : ℕ → List ℕ) (at i N : ℕ) (x s t : List ℕ) → ((j : ℕ) → j < N → length (S j) ≡ 32) → i < N → at + 32 * N ≤ length d

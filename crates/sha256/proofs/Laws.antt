@@ -1,13 +1,13 @@
 -- What the crates above know of big-endian numbers and of writing into a buffer.
 use mathlib.Core.Path.{_≡_, refl, _∙_, sym, ap, ap₂}
 use mathlib.Core.Bool.{true, false, _&&_, false≢true}
-use mathlib.Core.List.{List, [], _∷_, _++_, append-assoc}
+use mathlib.Core.List.{List, [], _∷_, _++_, append-assoc, append-nil}
 use Prim.Native.Nat.{ℕ, zero, suc, _+_, _*_, _/_, _%_, _^_, _≤_, _<_}
 use native.Mathlib.Nat.{pow-suc, mul-comm, mod-eq-of-lt, mod-one, mod-lt}
 use native.Mathlib.Omega.{arith}
 use lib.Dec.{eqb}
 use lib.Arith.{mod-mul, digits-div, digits-mod}
-use lib.ListN.{length, take, drop, getD, length-append, length-drop}
+use lib.ListN.{length, take, drop, getD, length-append, length-drop, drop-of-length-le}
 use lib.Seq.{length-take-le, take-at, drop-append-add, drop-drop}
 use borrow.Author.Tests.{le-leb, lt-leb, eqb-true, eq-eqb}
 use Rattle.sha256.proofs.Cases.{by-bool, cases-lt}
@@ -100,6 +100,23 @@ written-twice d at a b h =
     ∙ drop-append-add (take at d ++ a) (drop (at + length a) d) (length b) ∙ drop-drop (length b) (at + length a) d in
     written-fits (written d at a) (at + length a) b (omega arith)
     ∙ rw (front, back) (sym (written-fits d at (a ++ b) (omega arith) ∙ rw n (ap (λ (x : List ℕ). x ++ drop (at + length a + length b) d) (sym (append-assoc (take at d) a b)))))
+
+-- two parts side by side are one
+pub written-after : (d a b : List ℕ) (at to : ℕ) → at + length a ≡ to → to + length b ≤ length d
+    → written (written d at a) to b ≡ written d at (a ++ b)
+written-after d a b at to t h = rw (← t) (written-twice d at a b (omega arith))
+
+-- a buffer filled whole
+pub written-whole : (d s : List ℕ) → length s ≡ length d → written d 0 s ≡ s
+written-whole d s h =
+    let e : drop (0 + length s) d ≡ [] = drop-of-length-le d {i = 0 + length s} (omega arith) in
+    written-fits d 0 s (omega arith) ∙ rw e (append-nil s)
+
+-- an array filled by two parts
+pub filled-twice : (z a b s₁ s₂ : List ℕ) (n : ℕ) → length a ≡ n → n + length b ≡ length z → s₁ ≡ written z 0 a → s₂ ≡ written s₁ n b → s₂ ≡ a ++ b
+filled-twice z a b s₁ s₂ n la lz e₁ e₂ =
+    let l : length (a ++ b) ≡ length z = simp length-append (omega arith) in
+    rw (e₂, e₁, written-after z a b 0 n (omega arith) (omega arith)) (written-whole z (a ++ b) l)
 
 -- two parts that do not fit together leave all bytes as they were
 pub written-not-both : (d : List ℕ) (at : ℕ) (a b : List ℕ) → length d < at + length a + length b → d ≡ written d at (a ++ b)

@@ -3,7 +3,7 @@ use native.Mathlib.Omega.{arith}
 use lib.Seq.{length-take-le}
 use lib.ListN.{length, take, drop, length-drop}
 use borrow.Author.Needs.{needs}
-use Rattle.lms.proofs.Writing.{written-whole}
+use Rattle.sha256.proofs.Laws.{written-whole}
 use Rattle.lms.proofs.checking.id_of.Statement.{statement}
 use Rattle.lms.proofs.checking.id_of.Tie as tie
 

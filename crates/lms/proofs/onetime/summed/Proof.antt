@@ -1,6 +1,6 @@
 use mathlib.Core.Path.{_∙_}
 use borrow.Author.Needs.{needs}
-use Rattle.lms.proofs.Writing.{filled-twice}
+use Rattle.sha256.proofs.Laws.{filled-twice}
 use Rattle.lms.proofs.onetime.summed.Statement.{statement}
 use Rattle.lms.proofs.onetime.summed.Tie as tie
 
