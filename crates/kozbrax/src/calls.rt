@@ -1,7 +1,7 @@
 // The server's and the user's calls, over the bytes that are lent.
 ghost use mathlib.Core.Path.{_≡_};
 ghost use Rattle.tree.specs.Setup.{settings};
-ghost use Rattle.user.specs.Writing.{keyOf};
+ghost use Rattle.user_write.specs.Writing.{keyOf};
 ghost use Rattle.lent_bytes.specs.Server.{serverLeft};
 ghost use Rattle.lent_bytes.specs.User.{updateBegun, writeBegun, readBegun, userLent, UserLeaves, userAnswered, settledAnswer};
 use lent_bytes::serving;

@@ -12,9 +12,9 @@ use Rattle.sha256.proofs.Laws.{number-be}
 use Rattle.sha256.proofs.Numbers.{be-two, be-four, number-two, number-four}
 use Rattle.sha256.proofs.Words.{number-drop}
 use Rattle.user.specs.declared.call.Kept.{Kept}
-use Rattle.user.specs.declared.call.Update.{Update}
-use Rattle.user.specs.declared.call.Write.{Write}
-use Rattle.user.specs.declared.call.Read.{Read}
+use Rattle.user_update.specs.declared.call.Update.{Update}
+use Rattle.user_write.specs.declared.call.Write.{Write}
+use Rattle.user_read.specs.declared.call.Read.{Read}
 use Rattle.user.specs.Asking.{keptFits}
 use Rattle.lent_bytes.specs.User.{markOf, keptBytes, keptOf, updateBytes, updateOf, writeBytes, writeOf, readBytes, readOf}
 

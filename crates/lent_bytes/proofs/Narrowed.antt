@@ -10,15 +10,15 @@ use Rattle.tree.proofs.Cases.{cases-le, and-true, untrue}
 use Rattle.tree.proofs.Groups.{group-fits}
 use Rattle.tree.specs.Setup.{Settings, settings, groupFits, userCount, listed, firstCode}
 use Rattle.user.specs.declared.call.Kept.{Kept}
-use Rattle.user.specs.declared.call.Update.{Update}
-use Rattle.user.specs.declared.call.Write.{Write}
-use Rattle.user.specs.declared.call.Read.{Read}
+use Rattle.user_update.specs.declared.call.Update.{Update}
+use Rattle.user_write.specs.declared.call.Write.{Write}
+use Rattle.user_read.specs.declared.call.Read.{Read}
 use Rattle.user.specs.Asking.{settingsFit, setupChecks, refused}
-use Rattle.user.specs.Update.{freshUpdate, updateSetup, updateEarly, updateCollected, updateRefused, updateStarted, updateTaken}
-use Rattle.user.specs.Write.{Key, WriteLent, writeStartChecks, freshWrite, writeChecks, writeRefused, writeWaits, writeStarted, writeUpdates, writeGoes, writeTaken}
-use Rattle.user.specs.Read.{ReadLent, readMemory, readChecks, readEarly, readCollected, freshRead, readRefused, readStarted, readTaken}
+use Rattle.user_update.specs.Update.{freshUpdate, updateSetup, updateEarly, updateCollected, updateRefused, updateStarted, updateTaken}
+use Rattle.user_write.specs.Write.{Key, WriteLent, writeStartChecks, freshWrite, writeChecks, writeRefused, writeWaits, writeStarted, writeUpdates, writeGoes, writeTaken}
+use Rattle.user_read.specs.Read.{ReadLent, readMemory, readChecks, readEarly, readCollected, freshRead, readRefused, readStarted, readTaken}
 use Rattle.user.specs.Settled.{settledCode, settledGiven}
-use Rattle.user.specs.Writing.{lentOf}
+use Rattle.user_write.specs.Writing.{lentOf}
 use Rattle.lent_bytes.specs.User.{keptOf, updateOf, writeOf, readOf, UserLent, strayCode, updateAnswered, writeAnswered, readAnswered, strayAnswered, userAnswered}
 
 -- what settings that fit say of the two numbers

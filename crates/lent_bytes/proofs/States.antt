@@ -15,9 +15,9 @@ use Rattle.tree.specs.Cover.{piece}
 use Rattle.tree.proofs.Messages.{number-elements, three-parts}
 use Rattle.tree.proofs.Pieces.{piece-whole}
 use Rattle.user.specs.declared.call.Kept.{Kept}
-use Rattle.user.specs.declared.call.Update.{Update}
-use Rattle.user.specs.declared.call.Write.{Write}
-use Rattle.user.specs.declared.call.Read.{Read}
+use Rattle.user_update.specs.declared.call.Update.{Update}
+use Rattle.user_write.specs.declared.call.Write.{Write}
+use Rattle.user_read.specs.declared.call.Read.{Read}
 use Rattle.lent_bytes.specs.User.{markOf, keptBytes, keptOf, updateBytes, updateOf, writeBytes, writeOf, readBytes, readOf, keptAfter, callAfter}
 
 -- a mark

@@ -10,17 +10,17 @@ use Rattle.tree.specs.Setup.{Settings, settings, on, firstCode}
 use Rattle.tree.proofs.CheckLists.{code-then}
 use Rattle.user.specs.declared.call.Kept.{Kept}
 use Rattle.user.specs.declared.call.Step.{Step}
-use Rattle.user.specs.declared.call.Update.{Update}
-use Rattle.user.specs.declared.call.UpdateStep.{UpdateStep}
-use Rattle.user.specs.declared.call.Write.{Write}
-use Rattle.user.specs.declared.call.WriteStep.{WriteStep}
-use Rattle.user.specs.declared.call.Read.{Read}
-use Rattle.user.specs.declared.call.ReadStep.{ReadStep}
+use Rattle.user_update.specs.declared.call.Update.{Update}
+use Rattle.user_update.specs.declared.call.UpdateStep.{UpdateStep}
+use Rattle.user_write.specs.declared.call.Write.{Write}
+use Rattle.user_write.specs.declared.call.WriteStep.{WriteStep}
+use Rattle.user_read.specs.declared.call.Read.{Read}
+use Rattle.user_read.specs.declared.call.ReadStep.{ReadStep}
 use Rattle.user.specs.Asking.{setupChecks, requestRoom, refused}
-use Rattle.user.specs.Update.{updateStep, updateTaken}
-use Rattle.user.specs.Write.{Key, writeTaken}
-use Rattle.user.specs.Writing.{lentOf, Leaves}
-use Rattle.user.specs.Read.{readMemory, nothing, readStep, readTaken}
+use Rattle.user_update.specs.Update.{updateStep, updateTaken}
+use Rattle.user_write.specs.Write.{Key, writeTaken}
+use Rattle.user_write.specs.Writing.{lentOf, Leaves}
+use Rattle.user_read.specs.Read.{readMemory, nothing, readStep, readTaken}
 use Rattle.user.proofs.Passed.{setup-coded}
 use Rattle.lent_bytes.specs.User.{keptOf, updateBytes, updateOf, writeBytes, writeOf, readBytes, readOf, keptAfter, callAfter, askedOf, UserLent, userLent, UserLeft, UserLeaves, updateAnswered, writeAnswered, readAnswered, strayCode, strayAnswered, userAnswered}
 use Rattle.lent_bytes.specs.declared.using.Asked.{Asked}

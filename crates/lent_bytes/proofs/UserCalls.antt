@@ -5,15 +5,15 @@ use mathlib.Core.List.{List, [], _∷_}
 use Prim.Native.Nat.{ℕ, min}
 use Rattle.tree.specs.Setup.{Settings, settings}
 use Rattle.user.specs.declared.call.Kept.{Kept}
-use Rattle.user.specs.declared.call.UpdateStep.{UpdateStep}
-use Rattle.user.specs.declared.call.WriteStep.{WriteStep}
-use Rattle.user.specs.declared.call.ReadStep.{ReadStep}
+use Rattle.user_update.specs.declared.call.UpdateStep.{UpdateStep}
+use Rattle.user_write.specs.declared.call.WriteStep.{WriteStep}
+use Rattle.user_read.specs.declared.call.ReadStep.{ReadStep}
 use Rattle.user.specs.declared.call.Settled.{Settled}
 use Rattle.user.specs.Asking.{settingsFit}
-use Rattle.user.specs.Update.{UpdateLeft, updateStep, updateStarted}
-use Rattle.user.specs.Write.{WriteLent, WriteLeft, writeStep, writeStarted}
-use Rattle.user.specs.Writing.{keyOf, lentOf}
-use Rattle.user.specs.Read.{ReadLeft, readMemory, nothing, readStep, readStarted}
+use Rattle.user_update.specs.Update.{UpdateLeft, updateStep, updateStarted}
+use Rattle.user_write.specs.Write.{WriteLent, WriteLeft, writeStep, writeStarted}
+use Rattle.user_write.specs.Writing.{keyOf, lentOf}
+use Rattle.user_read.specs.Read.{ReadLeft, readMemory, nothing, readStep, readStarted}
 use Rattle.user.specs.Settled.{settledGiven}
 use Rattle.lent_bytes.specs.User.{markOf, keptOf, updateBytes, writeBytes, readBytes, callAfter, askedOf, updateBegun, readBegun, writeBegun, settledAnswer}
 use Rattle.lent_bytes.specs.declared.using.Asked.{Asked}

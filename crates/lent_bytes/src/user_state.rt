@@ -8,9 +8,9 @@ use sha256::bytes;
 use tree::digest;
 use tree::test;
 use user::call::Kept;
-use user::call::Read;
-use user::call::Update;
-use user::call::Write;
+use user_read::call::Read;
+use user_update::call::Update;
+use user_write::call::Write;
 
 // A mark's byte.
 pub fn mark(b: bool) -> u8

@@ -1,16 +1,16 @@
 // The user's calls. What is kept is 42 lent bytes, the call that goes on 82.
 ghost use mathlib.Core.Path.{_≡_};
 ghost use Rattle.tree.specs.Setup.{settings};
-ghost use Rattle.user.specs.Read.{nothing};
+ghost use Rattle.user_read.specs.Read.{nothing};
 ghost use Rattle.lent_bytes.specs.User.{askedOf, updateBegun, readBegun, writeBegun, settledAnswer};
 use super::numbers;
 use super::user_state;
-use user::call::Found;
-use user::call::Read;
 use user::call::Step;
-use user::call::Update;
-use user::call::Write;
 use user::settled;
+use user_read::call::Found;
+use user_read::call::Read;
+use user_update::call::Update;
+use user_write::call::Write;
 
 // What a step hands back: its code, the server's code for 11, the server to ask and the length of the request, 0 where the call has ended,
 // whether it has, and the author and the entry's length of a Read that ended with 0, else 0.

@@ -6,15 +6,15 @@ use crate::memory;
 use crate::place;
 use programs::key;
 use sha256::bytes;
-use user::call::Found;
 use user::call::Kept;
-use user::call::Read;
-use user::call::ReadStep;
 use user::call::Step;
-use user::call::Update;
-use user::call::UpdateStep;
-use user::call::Write;
-use user::call::WriteStep;
+use user_read::call::Found;
+use user_read::call::Read;
+use user_read::call::ReadStep;
+use user_update::call::Update;
+use user_update::call::UpdateStep;
+use user_write::call::Write;
+use user_write::call::WriteStep;
 
 // A call that takes no more answers: its last step, what the user keeps, and how many answers it took in, the refused one too.
 pub struct Done {

@@ -9,8 +9,8 @@ use crate::place;
 use crate::report;
 use programs::print;
 use sha256::bytes;
-use user::call::Found;
 use user::call::Step;
+use user_read::call::Found;
 
 // From now on every server but one keeps two copies.
 pub fn begin(g: Group, honest: u32, memory: &[u8], servers: &mut [u8]) -> Group {

@@ -1,12 +1,12 @@
 // A user's place of 10,240 bytes: what is kept, the last step and its call in the first 150, then the buffers that are lent.
 use sha256::bytes;
 use tree::digest;
-use user::call::Found;
 use user::call::Kept;
-use user::call::Read;
 use user::call::Step;
-use user::call::Update;
-use user::call::Write;
+use user_read::call::Found;
+use user_read::call::Read;
+use user_update::call::Update;
+use user_write::call::Write;
 
 pub const PATH: usize = 150;
 

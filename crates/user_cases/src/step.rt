@@ -4,9 +4,9 @@ use programs::key;
 use programs::line;
 use sha256::bytes;
 use user::call::Kept;
-use user::call::Read;
-use user::call::Update;
-use user::call::Write;
+use user_read::call::Read;
+use user_update::call::Update;
+use user_write::call::Write;
 
 // The settings of a step that is not changed: N is 4, the own number, two users; what is kept: version, number, whether a write is open
 // and signed; the lengths of the request buffer, the key tree, the entry buffer; 9,999 for an answer of its own length. What is at 0

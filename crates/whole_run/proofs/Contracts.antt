@@ -9,13 +9,13 @@ use Rattle.tree.specs.Bytes.{written}
 use Rattle.tree.specs.Setup.{firstCode, Settings}
 use Rattle.tree.proofs.Cases.{not-both}
 use Rattle.user.specs.declared.call.Kept.{Kept}
-use Rattle.user.specs.declared.call.Write.{Write}
-use Rattle.user.specs.Update.{UpdateLeft, freshUpdate, updateSetup, updateGoes, updateRefused, updateStarted}
-use Rattle.user.specs.Write.{Key, WriteLent, WriteLeft, writeRoom, writeStartChecks, freshWrite, heldEntry, writeAsks, writeWaits, writeRefused, writeStarted}
-use Rattle.user.specs.Read.{ReadLeft, readMemory, readChecks, freshRead, readAsks, readRefused, readStarted}
-use Rattle.user.specs.Writing.{keyOf, lentOf}
-use Rattle.user.proofs.UpdateRules.{endedLeft, askingLeft, by-goes}
-use Rattle.user.proofs.Writes.{body-first}
+use Rattle.user_write.specs.declared.call.Write.{Write}
+use Rattle.user_update.specs.Update.{UpdateLeft, freshUpdate, updateSetup, updateGoes, updateRefused, updateStarted}
+use Rattle.user_write.specs.Write.{Key, WriteLent, WriteLeft, writeRoom, writeStartChecks, freshWrite, heldEntry, writeAsks, writeWaits, writeRefused, writeStarted}
+use Rattle.user_read.specs.Read.{ReadLeft, readMemory, readChecks, freshRead, readAsks, readRefused, readStarted}
+use Rattle.user_write.specs.Writing.{keyOf, lentOf}
+use Rattle.user_update.proofs.UpdateRules.{endedLeft, askingLeft, by-goes}
+use Rattle.user_write.proofs.Writes.{body-first}
 
 -- Update::start
 abbrev pub updateLeftWith : List ℕ → UpdateLeft → UpdateLeft

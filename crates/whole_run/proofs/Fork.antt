@@ -9,7 +9,7 @@ use Rattle.tree.specs.Label.{owner, wait}
 use Rattle.tree.specs.Level.{lg}
 use Rattle.tree.proofs.Cases.{cases-le}
 use Rattle.tree.proofs.Labels.{every-server-owns-a-node}
-use Rattle.user.specs.Read.{textAuthor, textEntry}
+use Rattle.user_read.specs.Read.{textAuthor, textEntry}
 use Rattle.whole_run.specs.World.{Group, settingsOf, hashed, signed, answered, Reading}
 use Rattle.whole_run.specs.Runs.{World, Step, run, Fair}
 use Rattle.whole_run.specs.Claim.{NoneCollide, NoneForged, HasRead, Differ, Bounded, ForkBound, ViewIsVersion}

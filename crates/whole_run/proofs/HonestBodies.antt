@@ -11,8 +11,8 @@ use Rattle.tree.specs.Level.{lg, highestFull}
 use Rattle.tree.specs.Cover.{piece}
 use Rattle.tree.proofs.Cases.{by-bool, by-leb}
 use Rattle.tree.proofs.Levels.{full-iff}
-use Rattle.user.specs.Write.{pathDigest, commitNumber, writeKind, writeLevel, writeBody}
-use Rattle.user.proofs.Writes.{commit-positive}
+use Rattle.user_write.specs.Write.{pathDigest, commitNumber, writeKind, writeLevel, writeBody}
+use Rattle.user_write.proofs.Writes.{commit-positive}
 use Rattle.whole_run.proofs.HonestState.{Item, hashOf, digestOf, bodyAt}
 use Rattle.whole_run.proofs.HonestLog.{top-is-digest, hash-size, digest-size}
 use Rattle.whole_run.proofs.HonestRecords.{full-within}

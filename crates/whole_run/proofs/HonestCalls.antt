@@ -5,13 +5,13 @@ use mathlib.Core.List.{List, [], _++_}
 use Prim.Native.Nat.{ℕ, suc, _+_, _≤_, _<_}
 use lib.Dec.{eqb}
 use lib.ListN.{length}
-use Rattle.user.specs.declared.call.Update.{Update}
-use Rattle.user.specs.declared.call.Write.{Write}
-use Rattle.user.specs.declared.call.Read.{Read}
+use Rattle.user_update.specs.declared.call.Update.{Update}
+use Rattle.user_write.specs.declared.call.Write.{Write}
+use Rattle.user_read.specs.declared.call.Read.{Read}
 use Rattle.user.specs.declared.call.Step.{Step}
-use Rattle.user.specs.Update.{updateEnded, updateWant}
-use Rattle.user.specs.Write.{entryFits, targetFits, commitNumber, writeWant, heldEntry}
-use Rattle.user.specs.Read.{readCount, readWant}
+use Rattle.user_update.specs.Update.{updateEnded, updateWant}
+use Rattle.user_write.specs.Write.{entryFits, targetFits, commitNumber, writeWant, heldEntry}
+use Rattle.user_read.specs.Read.{readCount, readWant}
 use Rattle.whole_run.specs.World.{User, updating, writing, reading, Input, startUpdate, startWrite, startRead, answer, Lent}
 use Rattle.whole_run.specs.Honest.{Setup, keyOf, Server, Network, set, settingsIn, steps, stepOf, Written, Run, wrote, begins}
 use Rattle.whole_run.specs.HonestClaim.{Alone, storedBy, ValidMemory, updateAnswers, writeAnswers, writtenAt, Serves}

@@ -18,8 +18,8 @@ use Rattle.tree.proofs.Honest.{TrueAnswers, true-cover-gives-digest}
 use Rattle.tree.proofs.Pieces.{piece-whole}
 use Rattle.tree.proofs.Tiles.{no-tiles, getD-left}
 use Rattle.user.specs.declared.call.Kept.{Kept}
-use Rattle.user.specs.declared.call.Update.{Update}
-use Rattle.user.specs.Update.{recordHolds, coverGivesOwn, coverGivesNew}
+use Rattle.user_update.specs.declared.call.Update.{Update}
+use Rattle.user_update.specs.Update.{recordHolds, coverGivesOwn, coverGivesNew}
 use Rattle.whole_run.specs.Honest.{Setup, publicTo, settingsIn}
 use Rattle.whole_run.proofs.HonestState.{Item, texts, digestOf, SignedOk, ItemOk}
 use Rattle.whole_run.proofs.HonestLog.{digest-size}

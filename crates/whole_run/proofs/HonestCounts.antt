@@ -11,7 +11,7 @@ use Rattle.tree.specs.Label.{nodesTo}
 use Rattle.tree.proofs.Cases.{by-bool, by-eqb, cases-le, cases-eq}
 use Rattle.tree.proofs.Levels.{full-iff}
 use Rattle.server.specs.Shape.{nodeFits}
-use Rattle.user.specs.Write.{commitNumber}
+use Rattle.user_write.specs.Write.{commitNumber}
 use Rattle.whole_run.proofs.HonestState.{numberOf, has, reached}
 use Rattle.whole_run.proofs.HonestHeads.{nodes-suc}
 use Rattle.whole_run.proofs.HonestRecords.{by-stored-kind}

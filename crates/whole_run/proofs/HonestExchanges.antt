@@ -6,7 +6,7 @@ use Rattle.tree.specs.Message as Message
 use Rattle.server.specs.Serve.{Left}
 use Rattle.user.specs.declared.ask.Want.{Want}
 use Rattle.user.specs.declared.call.Step.{Step}
-use Rattle.user.specs.Write.{writeWant, writeKind, writeLevel}
+use Rattle.user_write.specs.Write.{writeWant, writeKind, writeLevel}
 use Rattle.whole_run.specs.World.{Sent, Call, answer, taking, userStep, User}
 use Rattle.whole_run.specs.Honest.{Setup, settingsIn, Network, set, reply, answerBytes, serverLeft, arrives, steps, comesBack, takenStep, stepOf}
 use Rattle.whole_run.proofs.HonestState.{Item, bodyAt, serving, PullRight, putting, serversAfter, PutRight}

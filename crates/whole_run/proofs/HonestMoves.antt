@@ -6,7 +6,7 @@ use Prim.Native.Nat.{ℕ, suc, _≤_, _<_}
 use lib.ListN.{length}
 use Rattle.tree.proofs.Cases.{cases-eq, not-both}
 use Rattle.user.specs.declared.call.Kept.{Kept}
-use Rattle.user.specs.Write.{commitNumber}
+use Rattle.user_write.specs.Write.{commitNumber}
 use Rattle.whole_run.specs.World.{User}
 use Rattle.whole_run.specs.Honest.{Setup, Server, Network, set}
 use Rattle.whole_run.specs.HonestClaim.{Alone}

@@ -21,8 +21,8 @@ use Rattle.tree.proofs.Levels.{full-mod, mod-full}
 use Rattle.tree.proofs.Tiles.{Tiled, peaks-tile, cover-tiles, peaks-are-ones, ones-of-zero, ones-of-one}
 use Rattle.tree.proofs.Peaks.{peak-holds, sibling-low, peak-level-small, read-count as nodes-count, read-sibling, read-before, read-after}
 use Rattle.tree.proofs.Pieces.{piece-whole}
-use Rattle.user.specs.Read.{readCount}
-use Rattle.user.proofs.Signing.{written-part}
+use Rattle.user_read.specs.Read.{readCount}
+use Rattle.user_write.proofs.Signing.{written-part}
 
 -- a full node of the first w positions
 pub record FullNode (w : ℕ) (n : Node) : Type 0 where

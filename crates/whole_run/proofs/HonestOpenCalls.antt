@@ -7,9 +7,9 @@ use native.Mathlib.Omega.{arith}
 use lib.ListN.{length}
 use Rattle.tree.proofs.Cases.{not-both, cases-eq}
 use Rattle.user.specs.declared.call.Kept.{Kept}
-use Rattle.user.specs.declared.call.Write.{Write}
+use Rattle.user_write.specs.declared.call.Write.{Write}
 use Rattle.user.specs.Asking.{keptFits, done}
-use Rattle.user.specs.Write.{Key, WriteLeft, commitNumber, writeTaken, WriteLent, openedAt, committed}
+use Rattle.user_write.specs.Write.{Key, WriteLeft, commitNumber, writeTaken, WriteLent, openedAt, committed}
 use Rattle.whole_run.specs.World.{User, Lent, writing, startWrite, writeLent, afterWrite, taking, Input, sentBy, returned}
 use Rattle.whole_run.specs.Honest.{Setup, InRange, settingsIn, Network, arrives, takenStep, Run, Written, wrote}
 use Rattle.whole_run.specs.HonestClaim.{writeAnswers, Reaches, Serves}

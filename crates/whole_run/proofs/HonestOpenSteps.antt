@@ -9,10 +9,10 @@ use Rattle.sha256.proofs.Cases.{by-bool}
 use Rattle.tree.specs.Bytes.{written}
 use Rattle.tree.proofs.Cases.{cases-eq, not-both}
 use Rattle.user.specs.declared.call.Kept.{Kept}
-use Rattle.user.specs.declared.call.Write.{Write}
+use Rattle.user_write.specs.declared.call.Write.{Write}
 use Rattle.user.specs.declared.ask.Want.{Want}
 use Rattle.user.specs.Asking.{asks, asking}
-use Rattle.user.specs.Write.{Key, WriteLent, WriteLeft, commitNumber, writeWant, withRequest, withSignature, openedAt, heldEntry, commitSignature, writeAsks}
+use Rattle.user_write.specs.Write.{Key, WriteLent, WriteLeft, commitNumber, writeWant, withRequest, withSignature, openedAt, heldEntry, commitSignature, writeAsks}
 use Rattle.whole_run.specs.World.{User, Lent, startWrite, writeLent, afterWrite, Input}
 use Rattle.whole_run.specs.Honest.{Setup, InRange, settingsIn, Network, arrives, Run, keyOf}
 use Rattle.whole_run.specs.HonestClaim.{writeAnswers}

@@ -25,12 +25,12 @@ use Rattle.tree.proofs.Levels.{lg-below}
 use Rattle.tree.proofs.Paths.{path-bytes-length, path-whole}
 use Rattle.tree.proofs.Pieces.{piece-whole}
 use Rattle.user.specs.declared.call.Kept.{Kept}
-use Rattle.user.specs.declared.call.Update.{Update}
-use Rattle.user.specs.declared.call.Write.{Write}
+use Rattle.user_update.specs.declared.call.Update.{Update}
+use Rattle.user_write.specs.declared.call.Write.{Write}
 use Rattle.user.specs.Asking.{settingsFit, keptFits, setupChecks, requestRoom}
-use Rattle.user.specs.Update.{UpdateLeft, freshUpdate, updateGoes, updateTaken, arrived}
-use Rattle.user.specs.Write.{Key, WriteLent, WriteLeft, withHeld, withHashes, withPath, openedAt, entryFits, targetFits, ownLeaf, heldEntry, freshWrite, writeRoom, writeStartChecks, writeStarted, writeAsks, writeWaits, writeRefused, openingChecks, opening, writeOpens, writeUpdates, writeGoes, writeTaken}
-use Rattle.user.proofs.UpdateRules.{endedLeft}
+use Rattle.user_update.specs.Update.{UpdateLeft, freshUpdate, updateGoes, updateTaken, arrived}
+use Rattle.user_write.specs.Write.{Key, WriteLent, WriteLeft, withHeld, withHashes, withPath, openedAt, entryFits, targetFits, ownLeaf, heldEntry, freshWrite, writeRoom, writeStartChecks, writeStarted, writeAsks, writeWaits, writeRefused, openingChecks, opening, writeOpens, writeUpdates, writeGoes, writeTaken}
+use Rattle.user_update.proofs.UpdateRules.{endedLeft}
 use Rattle.whole_run.specs.Honest.{Setup, settingsIn, set}
 use Rattle.whole_run.proofs.Requests.{entry-sizes}
 use Rattle.whole_run.proofs.Opening.{laid-length}

@@ -12,7 +12,7 @@ use Rattle.tree.proofs.Cases.{cases-le, cases-eq}
 use Rattle.tree.proofs.Labels.{owner-range}
 use Rattle.user.specs.declared.ask.Want.{Want}
 use Rattle.user.specs.Asking.{ofNode}
-use Rattle.user.specs.Write.{commitNumber, writeKind, writeLevel, writeWant}
+use Rattle.user_write.specs.Write.{commitNumber, writeKind, writeLevel, writeWant}
 use Rattle.whole_run.specs.Honest.{Setup, InRange, Server, set, answerBytes, serverLeft}
 use Rattle.whole_run.specs.HonestClaim.{storedTo}
 use Rattle.whole_run.proofs.HonestState.{Item, digestOf, bodyOf, numberOf, ServerOk, RoomLeft, SignedOk, ItemOk, serving, bodyAt, PutRight}

@@ -4,10 +4,10 @@ use mathlib.Core.List.{List, [], _∷_, append-nil}
 use Prim.Native.Nat.{ℕ, suc, _-_, _≤_, _<_}
 use native.Mathlib.Omega.{arith}
 use lib.ListN.{length, take}
-use Rattle.user.specs.declared.call.Read.{Read}
+use Rattle.user_read.specs.declared.call.Read.{Read}
 use Rattle.user.specs.declared.ask.Want.{Want}
 use Rattle.user.specs.Asking.{asking, done}
-use Rattle.user.specs.Read.{ReadLent, ReadLeft, readCount, readWant, readWith, readNext, readHashes, readHeld, readAsks, readEnds, readTaken}
+use Rattle.user_read.specs.Read.{ReadLent, ReadLeft, readCount, readWant, readWith, readNext, readHashes, readHeld, readAsks, readEnds, readTaken}
 use Rattle.whole_run.specs.World.{User, Lent, reading, Reading, startRead, sentBy, readLent, newReads, afterRead, returned, taking}
 use Rattle.whole_run.specs.Honest.{Setup, InRange, settingsIn, Network, arrives, takenStep, Run, wrote}
 use Rattle.whole_run.specs.HonestClaim.{writtenAt, Serves}

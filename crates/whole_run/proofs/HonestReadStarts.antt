@@ -6,7 +6,7 @@ use native.Mathlib.Omega.{arith}
 use native.Mathlib.Nat.{zero-add}
 use lib.ListN.{length}
 use Rattle.user.specs.Asking.{asking}
-use Rattle.user.specs.Read.{ReadLent, ReadLeft, readCount, readWant, freshRead, readAsks, readStarted}
+use Rattle.user_read.specs.Read.{ReadLent, ReadLeft, readCount, readWant, freshRead, readAsks, readStarted}
 use Rattle.whole_run.specs.World.{User, Lent, startRead, readLent, newReads, afterRead, returned, userStep}
 use Rattle.whole_run.specs.Honest.{Setup, InRange, settingsIn, steps, stepOf, Run, begins}
 use Rattle.whole_run.specs.HonestClaim.{ValidMemory, ValidInput, ValidCall, answersOf, countOf}

@@ -21,11 +21,11 @@ use Rattle.tree.proofs.Cases.{by-eqb, cases-eq, positive}
 use Rattle.tree.proofs.Groups.{Group}
 use Rattle.tree.proofs.HonestRead.{TrueReads, true-read-gives-digest}
 use Rattle.user.specs.declared.call.Kept.{Kept}
-use Rattle.user.specs.declared.call.Read.{Read}
+use Rattle.user_read.specs.declared.call.Read.{Read}
 use Rattle.user.specs.Asking.{settingsFit, keptFits, setupChecks, requestRoom, ofNode, isAnswer}
-use Rattle.user.specs.Read.{ReadLent, readWith, readCount, readWant, readChecks, freshRead, readAsks, readEnds, readNext, readHeld, readHashes, heldText, textAuthor, textEntry, readOver, readGives, readEarly, readCollected, readStarted, readTaken}
-use Rattle.user.proofs.ReadRules.{handed}
-use Rattle.user.proofs.Reading.{want-operation, want-node}
+use Rattle.user_read.specs.Read.{ReadLent, readWith, readCount, readWant, readChecks, freshRead, readAsks, readEnds, readNext, readHeld, readHashes, heldText, textAuthor, textEntry, readOver, readGives, readEarly, readCollected, readStarted, readTaken}
+use Rattle.user_read.proofs.ReadRules.{handed}
+use Rattle.user_read.proofs.Reading.{want-operation, want-node}
 use Rattle.whole_run.specs.Honest.{Setup, publicTo, settingsIn}
 use Rattle.whole_run.proofs.HonestState.{Item, texts, hashOf, ItemOk, RightBody, CanAsk, ReadOk}
 use Rattle.whole_run.proofs.HonestLog.{hash-size}

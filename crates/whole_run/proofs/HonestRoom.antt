@@ -12,7 +12,7 @@ use Rattle.tree.specs.Label.{owner}
 use Rattle.tree.proofs.Cases.{cases-eq}
 use Rattle.tree.proofs.Levels.{full-iff}
 use Rattle.server.specs.Shape.{levelFits, nodeFits}
-use Rattle.user.specs.Write.{commitNumber, writeKind, writeLevel}
+use Rattle.user_write.specs.Write.{commitNumber, writeKind, writeLevel}
 use Rattle.whole_run.specs.Honest.{Setup, Server}
 use Rattle.whole_run.specs.HonestClaim.{bodySize, storedTo}
 use Rattle.whole_run.proofs.HonestState.{Item, digestOf, bodyOf, numberOf, RoomLeft, SignedOk, bodyAt}

@@ -9,7 +9,7 @@ use lib.ListN.{length, replicate, length-replicate, getD}
 use Rattle.sha256.proofs.Cases.{by-bool}
 use Rattle.tree.specs.Level.{leastFrom, reaches, lg, isFull, highestFull}
 use Rattle.tree.specs.Label.{owner}
-use Rattle.user.specs.Write.{entryFits, strikes, targetFits, commitNumber, writeLevel}
+use Rattle.user_write.specs.Write.{entryFits, strikes, targetFits, commitNumber, writeLevel}
 use Rattle.tree.proofs.Cases.{not-both}
 use Rattle.whole_run.specs.World.{Lent, Input, startWrite}
 use Rattle.whole_run.specs.Runs.{newUser}

@@ -13,7 +13,7 @@ use Rattle.server.specs.Shape.{nodeFits}
 use Rattle.server.specs.Store.{records, recordsIn, sizes, whole, first}
 use Rattle.server.specs.Checks.{settingsFit, headFits}
 use Rattle.server.proofs.Asked.{names-node, in-log}
-use Rattle.user.specs.Write.{commitNumber}
+use Rattle.user_write.specs.Write.{commitNumber}
 use Rattle.whole_run.specs.Honest.{Setup, publicTo, Server}
 use Rattle.whole_run.proofs.HonestState.{Item, texts, digestOf, bodyOf, recordOf, has, reached, HeadAt, ServerOk}
 use Rattle.whole_run.proofs.HonestLog.{same-hash, same-digest}

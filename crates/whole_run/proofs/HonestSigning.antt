@@ -16,7 +16,7 @@ use Rattle.tree.specs.Message.{signedText}
 use Rattle.tree.specs.Setup.{userKey}
 use Rattle.tree.proofs.Cases.{cases-eq, not-both}
 use Rattle.user.specs.declared.call.Kept.{Kept}
-use Rattle.user.specs.Write.{commitSignature}
+use Rattle.user_write.specs.Write.{commitSignature}
 use Rattle.whole_run.specs.Honest.{Setup, InRange, keyOf, publicOf, publicTo, set}
 use Rattle.whole_run.proofs.HonestState.{Item, texts, digestOf, SignedOk, OpenOk, validAt}
 use Rattle.whole_run.proofs.HonestLog.{same-hash, same-digest}

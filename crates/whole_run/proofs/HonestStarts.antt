@@ -9,8 +9,8 @@ use Rattle.sha256.proofs.Cases.{by-bool}
 use Rattle.tree.proofs.Cases.{not-both}
 use Rattle.user.specs.declared.call.Kept.{Kept}
 use Rattle.user.specs.Asking.{keptFits, asking}
-use Rattle.user.specs.Update.{UpdateLeft, freshUpdate, updateGoes, updateStarted, updateWant}
-use Rattle.user.proofs.UpdateRules.{askingLeft, by-goes}
+use Rattle.user_update.specs.Update.{UpdateLeft, freshUpdate, updateGoes, updateStarted, updateWant}
+use Rattle.user_update.proofs.UpdateRules.{askingLeft, by-goes}
 use Rattle.whole_run.specs.World.{User, Lent, Input, startUpdate, afterUpdate, userStep}
 use Rattle.whole_run.specs.Honest.{Setup, InRange, settingsIn, Network, steps, stepOf, Run, begins}
 use Rattle.whole_run.specs.HonestClaim.{Alone, ValidMemory, ValidInput, ValidCall, updateAnswers, answersOf, countOf}

@@ -22,12 +22,12 @@ use Rattle.server.specs.Serve.{Left, served}
 use Rattle.server.proofs.Served.{Ready}
 use Rattle.server.proofs.After.{recordsOf}
 use Rattle.user.specs.declared.call.Kept.{Kept}
-use Rattle.user.specs.declared.call.Update.{Update}
-use Rattle.user.specs.declared.call.Read.{Read}
+use Rattle.user_update.specs.declared.call.Update.{Update}
+use Rattle.user_read.specs.declared.call.Read.{Read}
 use Rattle.user.specs.declared.ask.Want.{Want}
 use Rattle.user.specs.Asking.{asks}
-use Rattle.user.specs.Write.{commitNumber, writeLevel, writeKind, writeWant}
-use Rattle.user.specs.Read.{heldText}
+use Rattle.user_write.specs.Write.{commitNumber, writeLevel, writeKind, writeWant}
+use Rattle.user_read.specs.Read.{heldText}
 use Rattle.whole_run.specs.World.{User}
 use Rattle.whole_run.specs.Honest.{Setup, publicTo, settingsIn, Server, Network, set, answerBytes, serverLeft}
 use Rattle.whole_run.specs.HonestClaim.{storedTo, storedBy}

@@ -16,8 +16,8 @@ use Rattle.tree.specs.Setup.{inLog}
 use Rattle.tree.proofs.Cases.{and-true, cases-le, cases-eq, positive}
 use Rattle.tree.proofs.Levels.{lg-below}
 use Rattle.tree.proofs.Messages.{be-one}
-use Rattle.user.specs.declared.call.Update.{Update}
-use Rattle.user.specs.Update.{toldPosition, toldLevel, toldLabel, headHolds, statusTaken}
+use Rattle.user_update.specs.declared.call.Update.{Update}
+use Rattle.user_update.specs.Update.{toldPosition, toldLevel, toldLabel, headHolds, statusTaken}
 use Rattle.whole_run.specs.Honest.{Setup}
 use Rattle.whole_run.proofs.HonestState.{Item, ownerOf, HeadAt, ToldOk, UpdateOk}
 use Rattle.whole_run.proofs.HonestHeads.{owner-label, own-range, top, label-zero, label-above-zero, position-le, position-is}

@@ -5,10 +5,10 @@ use mathlib.Core.List.{List, [], append-nil}
 use Prim.Native.Nat.{ℕ, suc, _+_, _≤_, _<_}
 use native.Mathlib.Omega.{arith}
 use Rattle.tree.proofs.Cases.{not-both}
-use Rattle.user.specs.declared.call.Update.{Update}
+use Rattle.user_update.specs.declared.call.Update.{Update}
 use Rattle.user.specs.Asking.{asking, done}
-use Rattle.user.specs.Update.{UpdateLeft, updateWant, updateTaken, arrived}
-use Rattle.user.proofs.UpdateRules.{endedLeft, askingLeft}
+use Rattle.user_update.specs.Update.{UpdateLeft, updateWant, updateTaken, arrived}
+use Rattle.user_update.proofs.UpdateRules.{endedLeft, askingLeft}
 use Rattle.whole_run.specs.World.{User, Lent, updating, startUpdate, sentBy, afterUpdate, taking}
 use Rattle.whole_run.specs.Honest.{Setup, InRange, settingsIn, Network, arrives, takenStep, Run, wrote}
 use Rattle.whole_run.specs.HonestClaim.{updateAnswers, Reaches, Serves}

@@ -17,11 +17,11 @@ use Rattle.tree.proofs.Cases.{by-bool, cases-le, cases-eq, positive}
 use Rattle.tree.proofs.Counts.{cover-at-most-39}
 use Rattle.tree.proofs.Groups.{Group}
 use Rattle.user.specs.declared.call.Kept.{Kept}
-use Rattle.user.specs.declared.call.Update.{Update}
+use Rattle.user_update.specs.declared.call.Update.{Update}
 use Rattle.user.specs.Asking.{settingsFit, keptFits, setupChecks, requestRoom, isAnswer, ofNode, ofStatus}
-use Rattle.user.specs.Update.{updateEnded, updateWant, updateNext, updateHashes, updateChecks, statusTaken, updateGoes, freshUpdate, updateStarted, updateSetup, updateEarly, updateCollected, updateTaken}
-use Rattle.user.proofs.UpdateRules.{next-asked, later-position}
-use Rattle.user.proofs.Updates.{want-status, want-record, want-node, next-status, no-hash, hash-kept, heads-later, heads-last, contents-status, contents-record, contents-node, contents-last}
+use Rattle.user_update.specs.Update.{updateEnded, updateWant, updateNext, updateHashes, updateChecks, statusTaken, updateGoes, freshUpdate, updateStarted, updateSetup, updateEarly, updateCollected, updateTaken}
+use Rattle.user_update.proofs.UpdateRules.{next-asked, later-position}
+use Rattle.user_update.proofs.Updates.{want-status, want-record, want-node, next-status, no-hash, hash-kept, heads-later, heads-last, contents-status, contents-record, contents-node, contents-last}
 use Rattle.whole_run.specs.Honest.{Setup, publicTo, settingsIn}
 use Rattle.whole_run.proofs.HonestState.{Item, hashOf, digestOf, ToldOk, RightBody, UpdateOk}
 use Rattle.whole_run.proofs.HonestLog.{hash-size, digest-size}

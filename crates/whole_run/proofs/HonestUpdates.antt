@@ -17,13 +17,13 @@ use Rattle.tree.proofs.Counts.{own-length}
 use Rattle.tree.proofs.Honest.{TrueAnswers}
 use Rattle.tree.proofs.Tiles.{ones-of-zero}
 use Rattle.user.specs.declared.call.Kept.{Kept}
-use Rattle.user.specs.declared.call.Update.{Update}
+use Rattle.user_update.specs.declared.call.Update.{Update}
 use Rattle.user.specs.Asking.{ofNode, ofStatus}
-use Rattle.user.specs.Update.{freshUpdate, updateEnded, updateWant, arrived}
+use Rattle.user_update.specs.Update.{freshUpdate, updateEnded, updateWant, arrived}
 use Rattle.user.proofs.Passed.{or-cases}
-use Rattle.user.proofs.UpdateRules.{counted}
-use Rattle.user.proofs.Updates.{want-status, want-record, want-node}
-use Rattle.user.proofs.UpdateSteps.{arrived-nowhere, arrived-later}
+use Rattle.user_update.proofs.UpdateRules.{counted}
+use Rattle.user_update.proofs.Updates.{want-status, want-record, want-node}
+use Rattle.user_update.proofs.UpdateSteps.{arrived-nowhere, arrived-later}
 use Rattle.whole_run.specs.Honest.{Setup}
 use Rattle.whole_run.specs.HonestClaim.{updateAnswers}
 use Rattle.whole_run.proofs.HonestState.{Item, texts, digestOf, CanAsk, UpdateOk}

@@ -9,14 +9,14 @@ use Rattle.tree.specs.Bytes.{written}
 use Rattle.tree.specs.Cover.{pathWritten}
 use Rattle.tree.proofs.Cases.{cases-le, not-both}
 use Rattle.user.specs.declared.call.Kept.{Kept}
-use Rattle.user.specs.declared.call.Update.{Update}
-use Rattle.user.specs.declared.call.Write.{Write}
+use Rattle.user_update.specs.declared.call.Update.{Update}
+use Rattle.user_write.specs.declared.call.Write.{Write}
 use Rattle.user.specs.declared.ask.Want.{Want}
 use Rattle.user.specs.Asking.{asks, asking, done}
-use Rattle.user.specs.Update.{UpdateLeft, updateWant, arrived}
-use Rattle.user.specs.Write.{WriteLent, WriteLeft, writeWant, ownLeaf, withRequest, withHashes, withPath, withUpdate, openedAt, opening, heldEntry, writeWaits, writeTaken}
-use Rattle.user.proofs.UpdateRules.{endedLeft, askingLeft}
-use Rattle.user.proofs.Writes.{commit-positive}
+use Rattle.user_update.specs.Update.{UpdateLeft, updateWant, arrived}
+use Rattle.user_write.specs.Write.{WriteLent, WriteLeft, writeWant, ownLeaf, withRequest, withHashes, withPath, withUpdate, openedAt, opening, heldEntry, writeWaits, writeTaken}
+use Rattle.user_update.proofs.UpdateRules.{endedLeft, askingLeft}
+use Rattle.user_write.proofs.Writes.{commit-positive}
 use Rattle.whole_run.specs.World.{User, Lent, writing, startWrite, writeLent, afterWrite, taking, Input}
 use Rattle.whole_run.specs.Honest.{Setup, InRange, settingsIn, Server, Network, set, arrives, takenStep, Run}
 use Rattle.whole_run.specs.HonestClaim.{storedTo, storedBy, updateAnswers, writeAnswers}

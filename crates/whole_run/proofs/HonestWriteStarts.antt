@@ -10,13 +10,13 @@ use Rattle.sha256.proofs.Cases.{by-bool}
 use Rattle.tree.specs.Bytes.{written}
 use Rattle.tree.proofs.ByteLaws.{written-length}
 use Rattle.tree.proofs.Cases.{not-both}
-use Rattle.user.specs.declared.call.Write.{Write}
+use Rattle.user_write.specs.declared.call.Write.{Write}
 use Rattle.user.specs.declared.ask.Want.{Want}
 use Rattle.user.specs.Asking.{asks, asking}
-use Rattle.user.specs.Update.{freshUpdate, updateWant}
-use Rattle.user.specs.Write.{Key, WriteLeft, WriteLent, entryFits, writeWant, withHeld, withRequest, withUpdate, heldEntry, freshWrite, writeWaits, writeStarted}
-use Rattle.user.proofs.UpdateRules.{askingLeft}
-use Rattle.user.proofs.Writes.{commit-positive}
+use Rattle.user_update.specs.Update.{freshUpdate, updateWant}
+use Rattle.user_write.specs.Write.{Key, WriteLeft, WriteLent, entryFits, writeWant, withHeld, withRequest, withUpdate, heldEntry, freshWrite, writeWaits, writeStarted}
+use Rattle.user_update.proofs.UpdateRules.{askingLeft}
+use Rattle.user_write.proofs.Writes.{commit-positive}
 use Rattle.whole_run.specs.World.{User, Lent, startWrite, writeLent, afterWrite, userStep}
 use Rattle.whole_run.specs.Honest.{Setup, InRange, keyOf, settingsIn, steps, stepOf, Run, begins}
 use Rattle.whole_run.specs.HonestClaim.{NewWrite, ValidMemory, ValidInput, ValidCall, updateAnswers, writeAnswers, answersOf, countOf}

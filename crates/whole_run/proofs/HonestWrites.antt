@@ -18,10 +18,10 @@ use Rattle.tree.proofs.Cases.{by-bool, cases-eq}
 use Rattle.tree.proofs.Labels.{owner-range}
 use Rattle.tree.proofs.Levels.{lg-below}
 use Rattle.user.specs.declared.call.Kept.{Kept}
-use Rattle.user.specs.declared.call.Write.{Write}
+use Rattle.user_write.specs.declared.call.Write.{Write}
 use Rattle.user.specs.declared.ask.Want.{Want}
 use Rattle.user.specs.Asking.{settingsFit, keptFits, setupChecks, requestRoom, ofNode, asks, bodyFits, isAnswer, answerChecks, done, asking}
-use Rattle.user.specs.Write.{Key, WriteLent, WriteLeft, withRequest, withHeld, withSignature, openedAt, entryFits, ownLeaf, pathDigest, heldEntry, freshWrite, commitNumber, writeKind, writeLevel, writeWant, writeBody, writeRoom, writeStarted, writeAsks, signsNext, writeChecks, commitSignature, writeSignature, signing, committed, writeUpdates, writeGoes, writeTaken}
+use Rattle.user_write.specs.Write.{Key, WriteLent, WriteLeft, withRequest, withHeld, withSignature, openedAt, entryFits, ownLeaf, pathDigest, heldEntry, freshWrite, commitNumber, writeKind, writeLevel, writeWant, writeBody, writeRoom, writeStarted, writeAsks, signsNext, writeChecks, commitSignature, writeSignature, signing, committed, writeUpdates, writeGoes, writeTaken}
 use Rattle.whole_run.specs.Honest.{Setup, InRange, settingsIn}
 use Rattle.whole_run.proofs.HonestState.{Item, hashOf, digestOf, OpenOk, bodyAt}
 use Rattle.whole_run.proofs.HonestLog.{hash-of-leaf}

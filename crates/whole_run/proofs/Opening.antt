@@ -20,22 +20,22 @@ use Rattle.tree.proofs.Agree.{AllIn, Sized}
 use Rattle.tree.proofs.Cuts.{cover-path-sized, cover-digest-sized}
 use Rattle.tree.specs.Setup.{Settings}
 use Rattle.user.specs.declared.call.Kept.{Kept}
-use Rattle.user.specs.declared.call.Update.{Update}
-use Rattle.user.specs.declared.call.Write.{Write}
+use Rattle.user_update.specs.declared.call.Update.{Update}
+use Rattle.user_write.specs.declared.call.Write.{Write}
 use Rattle.user.specs.Asking.{refused, done, asking}
-use Rattle.user.specs.Update.{UpdateLeft, updateNext, updateCollected, updateEnded, updateRefused, arrived}
-use Rattle.user.specs.Write.{WriteLent, WriteLeft, withHashes, withPath, openedAt, ownLeaf, pathDigest, heldEntry, writeRefused, writeAsks, writeWaits, writeOpens, writeUpdates, opening}
+use Rattle.user_update.specs.Update.{UpdateLeft, updateNext, updateCollected, updateEnded, updateRefused, arrived}
+use Rattle.user_write.specs.Write.{WriteLent, WriteLeft, withHashes, withPath, openedAt, ownLeaf, pathDigest, heldEntry, writeRefused, writeAsks, writeWaits, writeOpens, writeUpdates, opening}
 use Rattle.whole_run.specs.World.{Event, hashed, allHashed, Lent, Reading, User, Outcome, sentBy, coverStrings, afterWrite, openingHashed, writeSigned, writeAccepted, writeLent, recordAccepted}
 use Rattle.tree.proofs.Paths.{path-top}
 use Rattle.user.proofs.Passed.{or-cases}
 use Rattle.whole_run.proofs.Updating
-use Rattle.user.proofs.UpdateRules.{Taken, by-taken, by-goes, endedLeft, askingLeft, record-not-last}
+use Rattle.user_update.proofs.UpdateRules.{Taken, by-taken, by-goes, endedLeft, askingLeft, record-not-last}
 use Rattle.whole_run.proofs.Updating.{arrives}
 use Rattle.whole_run.proofs.States
 use Rattle.whole_run.proofs.States.{NoneSigned, noted-in}
 use Rattle.whole_run.proofs.UpdateSteps
 use Rattle.whole_run.proofs.UpdateSteps.{arrived-ok, record-signed, noted-left, noted-right}
-use Rattle.user.proofs.WriteRules.{by-opening, openedLeft, laid, reserve-sent, commit-late}
+use Rattle.user_write.proofs.WriteRules.{by-opening, openedLeft, laid, reserve-sent, commit-late}
 use Rattle.whole_run.proofs.WriteSteps.{writeEvents, only-signed, signed-is}
 
 -- what an Update that has ended makes of the kept state

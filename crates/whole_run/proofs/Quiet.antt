@@ -10,11 +10,11 @@ use Rattle.sha256.proofs.Cases.{by-bool}
 use Rattle.tree.specs.Setup.{Settings}
 use Rattle.user.specs.declared.call.Kept.{Kept}
 use Rattle.user.specs.declared.call.Step.{Step as Asking}
-use Rattle.user.specs.declared.call.Update.{Update}
-use Rattle.user.specs.declared.call.Write.{Write}
-use Rattle.user.specs.Update.{UpdateLeft}
-use Rattle.user.specs.Write.{WriteLeft, signsNext, writeStarted}
-use Rattle.user.specs.Read.{ReadLeft}
+use Rattle.user_update.specs.declared.call.Update.{Update}
+use Rattle.user_write.specs.declared.call.Write.{Write}
+use Rattle.user_update.specs.Update.{UpdateLeft}
+use Rattle.user_write.specs.Write.{WriteLeft, signsNext, writeStarted}
+use Rattle.user_read.specs.Read.{ReadLeft}
 use Rattle.whole_run.specs.World.{Event, hashed, signed, accepted, answered, allHashed, returned, writeLent, User, Call, idle, updating, writing, reading, Input, startUpdate, startWrite, startRead, answer, userStep, taking, updateHashed, recordAccepted, openingHashed, writeSigned, writeAccepted, readHashed}
 
 -- events with no answer of H among them

@@ -15,12 +15,12 @@ use Rattle.tree.proofs.Agree.{AllIn, Sized}
 use Rattle.tree.proofs.Cuts.{read-digest-sized}
 use Rattle.tree.proofs.ReadLaws.{read-gives-leaf}
 use Rattle.user.specs.declared.call.Kept.{Kept}
-use Rattle.user.specs.declared.call.Read.{Read}
+use Rattle.user_read.specs.declared.call.Read.{Read}
 use Rattle.user.specs.Asking.{refused, done, asking}
-use Rattle.user.specs.Read
-use Rattle.user.specs.Read.{ReadLent, ReadLeft, readChecks, freshRead, readAsks, readRefused, readStarted, readNext, heldText, textAuthor, textEntry, readOver, readGives, readEnds, readTaken}
+use Rattle.user_read.specs.Read
+use Rattle.user_read.specs.Read.{ReadLent, ReadLeft, readChecks, freshRead, readAsks, readRefused, readStarted, readNext, heldText, textAuthor, textEntry, readOver, readGives, readEnds, readTaken}
 use Rattle.whole_run.specs.World.{Event, Lent, Reading, User, Outcome, returned, newReads, afterRead, readHashed, readLent}
-use Rattle.user.proofs.ReadRules.{by-taken, next, collected, next-small, entry-kept, handed, held-small, read-given}
+use Rattle.user_read.proofs.ReadRules.{by-taken, next, collected, next-small, entry-kept, handed, held-small, read-given}
 use Rattle.whole_run.proofs.States
 use Rattle.whole_run.proofs.States.{NoneSigned, none-of-none, none-hashed, none-cond, noted-in}
 

@@ -22,12 +22,12 @@ use Rattle.tree.proofs.Messages.{be-one, request-position}
 use Rattle.tree.proofs.Pieces.{piece-length}
 use Rattle.tree.specs.Setup.{Settings}
 use Rattle.user.specs.declared.call.Kept.{Kept}
-use Rattle.user.specs.declared.call.Update.{Update}
-use Rattle.user.specs.declared.call.Write.{Write}
+use Rattle.user_update.specs.declared.call.Update.{Update}
+use Rattle.user_write.specs.declared.call.Write.{Write}
 use Rattle.user.specs.declared.ask.Want.{Want}
 use Rattle.user.specs.Asking.{requestRoom, ofNode, ofStatus, asks}
-use Rattle.user.specs.Update.{updateWant}
-use Rattle.user.specs.Write.{Key, WriteLent, entryFits, commitNumber, pathDigest, writeKind, writeLevel, writeBody, heldEntry, writeRoom, signsNext, commitSignature, writeSignature}
+use Rattle.user_update.specs.Update.{updateWant}
+use Rattle.user_write.specs.Write.{Key, WriteLent, entryFits, commitNumber, pathDigest, writeKind, writeLevel, writeBody, heldEntry, writeRoom, signsNext, commitSignature, writeSignature}
 use Rattle.user.proofs.Passed.{by-cond, sent-is}
 
 -- a request's kind and position, read back; its other fields may be of any size

@@ -16,10 +16,10 @@ use Rattle.tree.proofs.Agree.{AllIn, Sized, all-in}
 use Rattle.tree.proofs.Covers.{cover-gives-digest}
 use Rattle.tree.specs.Setup.{Settings}
 use Rattle.user.specs.declared.call.Kept.{Kept}
-use Rattle.user.specs.declared.call.Update.{Update}
-use Rattle.user.specs.declared.call.Write.{Write}
-use Rattle.user.specs.Write.{commitNumber, pathDigest}
-use Rattle.user.specs.Read.{textAuthor, textEntry}
+use Rattle.user_update.specs.declared.call.Update.{Update}
+use Rattle.user_write.specs.declared.call.Write.{Write}
+use Rattle.user_write.specs.Write.{commitNumber, pathDigest}
+use Rattle.user_read.specs.Read.{textAuthor, textEntry}
 use Rattle.whole_run.specs.World.{Event, hashed, signed, accepted, allHashed, Call, idle, updating, writing, reading, Sent, Reading, User, Outcome}
 use Rattle.whole_run.proofs.Histories
 use Rattle.whole_run.proofs.Updating

@@ -11,8 +11,8 @@ use Rattle.tree.specs.Expr.{NoCollision}
 use Rattle.tree.proofs.Cases.{by-eqb, not-both}
 use Rattle.tree.specs.Setup.{Settings}
 use Rattle.server.specs.Serve.{Left}
-use Rattle.user.specs.declared.call.Write.{Write}
-use Rattle.user.specs.Write.{WriteLeft, writeGoes, writeUpdates, writeTaken}
+use Rattle.user_write.specs.declared.call.Write.{Write}
+use Rattle.user_write.specs.Write.{WriteLeft, writeGoes, writeUpdates, writeTaken}
 use Rattle.whole_run.specs.World.{Group, settingsOf, Event, hashed, signed, accepted, answered, Call, idle, updating, writing, reading, User, Outcome, Input, startUpdate, startWrite, startRead, answer, taking, userStep, afterWrite, writeLent}
 use Rattle.whole_run.specs.Runs.{World, Step, user, server, newUser, setup, withUser, withServer, serverEvents, step, run, FairInput, FairStep, Fair}
 use Rattle.whole_run.proofs.Histories

@@ -17,14 +17,14 @@ use Rattle.tree.proofs.Agree.{AllIn}
 use Rattle.tree.proofs.Cuts.{cover-digest-sized}
 use Rattle.user.specs.declared.call.Kept.{Kept}
 use Rattle.user.specs.declared.call.Step.{Step}
-use Rattle.user.specs.declared.call.Update.{Update}
+use Rattle.user_update.specs.declared.call.Update.{Update}
 use Rattle.user.specs.Asking.{requestRoom, refused, done, asking}
-use Rattle.user.specs.Update.{UpdateLeft, freshUpdate, updateNext, updateCollected, updateEnded, updateSetup, updateGoes, updateRefused, updateStarted, updateTaken, arrived}
+use Rattle.user_update.specs.Update.{UpdateLeft, freshUpdate, updateNext, updateCollected, updateEnded, updateSetup, updateGoes, updateRefused, updateStarted, updateTaken, arrived}
 use Rattle.whole_run.specs.World.{Event, Reading, hashed, allHashed, Lent, User, Outcome, returned, coverStrings, afterUpdate, updateHashed, recordAccepted}
 use Rattle.whole_run.proofs.Histories
 use Rattle.user.proofs.Passed.{setup-passed}
 use Rattle.whole_run.proofs.Updating
-use Rattle.user.proofs.UpdateRules.{Taken, by-taken, by-goes, endedLeft, askingLeft}
+use Rattle.user_update.proofs.UpdateRules.{Taken, by-taken, by-goes, endedLeft, askingLeft}
 use Rattle.whole_run.proofs.Updating.{next-ok, arrives}
 use Rattle.whole_run.proofs.States
 use Rattle.whole_run.proofs.States.{NoneSigned, none-of-none, none-hashed, none-accepted, none-append, none-cond, noted-in, reads-grow}

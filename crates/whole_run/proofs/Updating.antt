@@ -12,9 +12,9 @@ use Rattle.tree.specs.Setup.{Settings}
 use Rattle.tree.proofs.Cases.{cases-le, cases-eq}
 use Rattle.tree.proofs.Tiles.{cover-some}
 use Rattle.user.specs.declared.call.Kept.{Kept}
-use Rattle.user.specs.declared.call.Update.{Update}
-use Rattle.user.specs.Update.{updateEnded, updateNext, updateCollected}
-use Rattle.user.proofs.UpdateRules.{next-asked, later-position, Above, next-above, Taken, own-given, new-given, counted, status-small, later-digest, last-hash}
+use Rattle.user_update.specs.declared.call.Update.{Update}
+use Rattle.user_update.specs.Update.{updateEnded, updateNext, updateCollected}
+use Rattle.user_update.proofs.UpdateRules.{next-asked, later-position, Above, next-above, Taken, own-given, new-given, counted, status-small, later-digest, last-hash}
 use Rattle.whole_run.proofs.Histories
 
 -- the strings that were hashed, the texts that were signed, H's answers

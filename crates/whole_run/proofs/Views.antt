@@ -15,17 +15,17 @@ use Rattle.tree.specs.Setup.{firstCode, Settings}
 use Rattle.tree.proofs.Cases.{and-true, not-both, by-eqb, cases-eq}
 use Rattle.tree.proofs.CheckLists.{check-passes}
 use Rattle.user.specs.declared.call.Kept.{Kept}
-use Rattle.user.specs.declared.call.Update.{Update}
-use Rattle.user.specs.declared.call.Write.{Write}
+use Rattle.user_update.specs.declared.call.Update.{Update}
+use Rattle.user_write.specs.declared.call.Write.{Write}
 use Rattle.user.specs.Asking.{setupChecks, requestRoom, ofNode, refused, done, asking}
-use Rattle.user.specs.Update.{UpdateLeft, freshUpdate, updateEnded, updateWant, updateNext, arrived, updateGoes, updateRefused, updateSetup, updateStarted, updateCollected, updateTaken}
-use Rattle.user.specs.Write.{WriteLent, WriteLeft, withHashes, withHeld, withSignature, withUpdate, commitNumber, writeKind, writeWant, writeBody, heldEntry, writeAsks, writeWaits, writeRefused, writeRoom, writeStartChecks, freshWrite, writeStarted, openingChecks, opening, openedAt, writeOpens, writeUpdates, writeChecks, writeSignature, signing, committed, writeGoes, writeTaken}
-use Rattle.user.specs.Read.{ReadLeft}
+use Rattle.user_update.specs.Update.{UpdateLeft, freshUpdate, updateEnded, updateWant, updateNext, arrived, updateGoes, updateRefused, updateSetup, updateStarted, updateCollected, updateTaken}
+use Rattle.user_write.specs.Write.{WriteLent, WriteLeft, withHashes, withHeld, withSignature, withUpdate, commitNumber, writeKind, writeWant, writeBody, heldEntry, writeAsks, writeWaits, writeRefused, writeRoom, writeStartChecks, freshWrite, writeStarted, openingChecks, opening, openedAt, writeOpens, writeUpdates, writeChecks, writeSignature, signing, committed, writeGoes, writeTaken}
+use Rattle.user_read.specs.Read.{ReadLeft}
 use Rattle.whole_run.specs.World.{Group, settingsOf, Event, Lent, Call, idle, updating, writing, reading, Sent, User, sentBy, returned, viewSent, afterUpdate, afterWrite, afterRead, writeLent, Input, startUpdate, startWrite, startRead, answer, taking, userStep}
 use Rattle.whole_run.specs.Runs.{Step, user, server, newUser, setup, withUser, withServer, step, run, FairInput, FairStep, Fair}
 use Rattle.whole_run.specs.Claim.{ViewIsVersion}
 use Rattle.user.proofs.Passed.{setup-passed, answer-passed, by-cond}
-use Rattle.user.proofs.UpdateRules.{Above, next-above, by-taken, by-goes}
+use Rattle.user_update.proofs.UpdateRules.{Above, next-above, by-taken, by-goes}
 use Rattle.whole_run.proofs.Requests.{sent-kind, sent-position, update-kind, write-kind, reserve-first, body-short, room-passed, signature-sized, entry-sizes}
 
 -- an Update does not end before its last Status

@@ -12,17 +12,17 @@ use Rattle.tree.specs.Expr.{strings, NoCollision}
 use Rattle.tree.specs.Setup.{firstCode, Settings}
 use Rattle.tree.proofs.Cases.{not-both, by-eqb, and-true}
 use Rattle.user.specs.declared.call.Kept.{Kept}
-use Rattle.user.specs.declared.call.Write.{Write}
+use Rattle.user_write.specs.declared.call.Write.{Write}
 use Rattle.user.specs.Asking.{requestRoom, refused, done, asking}
-use Rattle.user.specs.Update.{freshUpdate, updateGoes}
-use Rattle.user.specs.Write.{WriteLent, WriteLeft, withHeld, ownLeaf, freshWrite, writeRefused, writeAsks, writeWaits, writeRoom, writeStartChecks, writeStarted}
+use Rattle.user_update.specs.Update.{freshUpdate, updateGoes}
+use Rattle.user_write.specs.Write.{WriteLent, WriteLeft, withHeld, ownLeaf, freshWrite, writeRefused, writeAsks, writeWaits, writeRoom, writeStartChecks, writeStarted}
 use Rattle.whole_run.specs.World.{Event, allHashed, Lent, Reading, User, Outcome, sentBy, afterWrite, writeLent}
 use Rattle.user.proofs.Passed.{setup-passed}
-use Rattle.user.proofs.UpdateRules.{by-goes, askingLeft}
+use Rattle.user_update.proofs.UpdateRules.{by-goes, askingLeft}
 use Rattle.whole_run.proofs.States
 use Rattle.whole_run.proofs.States.{NoneSigned, none-of-none, none-hashed, none-cond}
 use Rattle.whole_run.proofs.UpdateSteps.{fresh-ok}
-use Rattle.user.proofs.WriteRules.{reserve-sent, commit-late}
+use Rattle.user_write.proofs.WriteRules.{reserve-sent, commit-late}
 
 module _ (s : Settings) (H : ℕ) (named : length (s .log) ≡ 16)
     (S : List ℕ → Type 0) (G : ℕ → List ℕ → Type 0) (A : List ℕ → List ℕ → Type 0) (free : NoCollision S) where

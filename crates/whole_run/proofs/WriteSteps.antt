@@ -16,10 +16,10 @@ use Rattle.tree.specs.Message.{request, signedText}
 use Rattle.tree.specs.Setup.{Settings}
 use Rattle.tree.proofs.Cases.{and-true, cases-eq, not-both}
 use Rattle.user.specs.declared.call.Kept.{Kept}
-use Rattle.user.specs.declared.call.Write.{Write}
+use Rattle.user_write.specs.declared.call.Write.{Write}
 use Rattle.user.specs.Asking.{refused, done, asking}
-use Rattle.user.specs.Read.{textAuthor, textEntry}
-use Rattle.user.specs.Write.{WriteLent, WriteLeft, withSignature, openedAt, commitNumber, pathDigest, writeRefused, writeAsks, signsNext, writeSignature, signing, committed, writeGoes}
+use Rattle.user_read.specs.Read.{textAuthor, textEntry}
+use Rattle.user_write.specs.Write.{WriteLent, WriteLeft, withSignature, openedAt, commitNumber, pathDigest, writeRefused, writeAsks, signsNext, writeSignature, signing, committed, writeGoes}
 use Rattle.whole_run.specs.World.{Event, signed, Lent, Sent, Reading, User, Outcome, sentBy, afterWrite, openingHashed, writeSigned, writeAccepted, writeLent}
 use Rattle.whole_run.proofs.Histories
 use Rattle.whole_run.proofs.Histories.{extend, extend-old, held-longer, held-agree}
@@ -28,7 +28,7 @@ use Rattle.whole_run.proofs.States
 use Rattle.whole_run.proofs.States.{NoneSigned, none-of-none, none-hashed, none-cond}
 use Rattle.whole_run.proofs.UpdateSteps
 use Rattle.whole_run.proofs.UpdateSteps.{record-signs-nothing}
-use Rattle.user.proofs.WriteRules.{signs-last, Going, by-going, reserve-sent, commit-late}
+use Rattle.user_write.proofs.WriteRules.{signs-last, Going, by-going, reserve-sent, commit-late}
 
 -- of a Write's events only `writeSigned` has a signature
 opening-signs-nothing : (s : Settings) (v : ℕ) (w : Write) (l : WriteLeft) → NoneSigned (openingHashed s v w l)

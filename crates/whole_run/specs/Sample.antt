@@ -16,8 +16,8 @@ use Rattle.tree.specs.Message as Me
 use Rattle.tree.specs.Setup as Se
 use Rattle.sha256.specs.Bytes as By
 use Rattle.user.specs.Asking as As
-use Rattle.user.specs.Update as Up
-use Rattle.user.specs.Write as Wr
+use Rattle.user_update.specs.Update as Up
+use Rattle.user_write.specs.Write as Wr
 use Rattle.server.specs.Shape as Sh
 use Rattle.server.specs.Store as St
 use Rattle.server.specs.Checks as Ch

@@ -1,4 +1,4 @@
-use Rattle.user.specs.Read.{nothing}
+use Rattle.user_read.specs.Read.{nothing}
 use borrow.Author.Needs.{needs}
 use Rattle.lent_bytes.proofs.using.plain_result.Statement.{statement}
 use Rattle.lent_bytes.proofs.using.plain_result.Tie as tie
