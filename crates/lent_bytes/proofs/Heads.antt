@@ -11,15 +11,14 @@ use lib.ListN.{length, drop, getD, replicate, length-append, length-drop, length
 use lib.Seq.{take-all, drop-cons}
 use borrow.Author.Tests.{eq-eqb, ne-eqb, leb-true}
 use Rattle.sha256.specs.Bytes.{be, numberAt, written}
-use Rattle.sha256.proofs.Laws.{be-length, be-mod, number-be}
+use Rattle.sha256.proofs.Laws.{be-length, be-mod, number-be, written-whole}
 use Rattle.sha256.proofs.Numbers.{be-two, be-four, number-two}
 use Rattle.sha256.proofs.Window.{elements}
-use Rattle.lms.proofs.Writing.{written-whole}
 use Rattle.tree.specs.Cover.{piece}
 use Rattle.tree.proofs.Cases.{cases-le, and-true, untrue}
 use Rattle.tree.proofs.Messages.{be-one, number-elements, three-parts}
 use Rattle.tree.proofs.Pieces.{piece-whole}
-use Rattle.tree.specs.Setup.{groupFits, firstCode, userCount, settings}
+use Rattle.tree.specs.Setup.{groupFits, firstCode, settings}
 use Rattle.server.specs.declared.Head.{Head}
 use Rattle.server.specs.declared.Out.{Out}
 use Rattle.server.specs.Checks.{setupChecks, settingsFit}

@@ -8,9 +8,8 @@ use lib.Dec.{eqb, leb}
 use lib.ListN.{length, take, drop, getD, replicate, length-append, length-drop, length-replicate}
 use borrow.Author.Tests.{eq-eqb, ne-eqb}
 use Rattle.sha256.specs.Bytes.{be, numberAt, written}
-use Rattle.sha256.proofs.Laws.{be-length, be-mod}
+use Rattle.sha256.proofs.Laws.{be-length, be-mod, written-whole, filled-twice}
 use Rattle.sha256.proofs.Window.{elements}
-use Rattle.lms.proofs.Writing.{written-whole, filled-twice}
 use Rattle.tree.specs.Cover.{piece}
 use Rattle.tree.proofs.Messages.{number-elements, three-parts}
 use Rattle.tree.proofs.Pieces.{piece-whole}
