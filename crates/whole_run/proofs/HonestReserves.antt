@@ -15,14 +15,14 @@ use Rattle.tree.specs.Label.{nodesTo, label, owner}
 use Rattle.tree.specs.Cover.{piece}
 use Rattle.tree.specs.Message.{requestBody, answer}
 use Rattle.tree.specs.Setup.{userCount}
-use Rattle.tree.proofs.Cases.{cases-le, cases-eq, positive}
+use Rattle.tree.proofs.Cases.{cases-le, cases-eq}
 use Rattle.tree.proofs.Levels.{lg-below}
 use Rattle.tree.proofs.Pieces.{piece-whole}
 use Rattle.server.specs.declared.Head.{Head}
 use Rattle.server.specs.Shape.{levelFits, nodeFits, bodyFits}
 use Rattle.server.specs.Checks.{reservable, recordKept, pullSource}
 use Rattle.server.specs.Serve.{bodyGiven}
-use Rattle.server.proofs.Asked.{in-log}
+use Rattle.server.proofs.After.{head-level}
 use Rattle.server.proofs.Codes.{code-reserve}
 use Rattle.server.proofs.Effects.{level-other, level-higher, level-kept, head-reserved}
 use Rattle.server.proofs.Served.{Ready, Early}
@@ -33,7 +33,7 @@ use Rattle.whole_run.proofs.HonestState.{Item, digestOf, recordOf, has,
 use Rattle.whole_run.proofs.HonestLog.{digest-size}
 use Rattle.whole_run.proofs.HonestHeads.{owner-label, above-own, taken, passed, label-is, label-le, position-le, position-gt}
 use Rattle.whole_run.proofs.HonestKeys.{user-count}
-use Rattle.whole_run.proofs.HonestServed.{server-is, head-in-log, Asked, asked-fields, early-asked, left, held, kindCode, answered-with, left-head, ready-left}
+use Rattle.whole_run.proofs.HonestServed.{server-is, Asked, asked-fields, early-asked, left, held, kindCode, answered-with, left-head, ready-left}
 use Rattle.whole_run.proofs.HonestRecords.{node-in-log}
 use Rattle.whole_run.proofs.HonestCounts.{has-step, reached-low, reached-high, reached-le, number-low}
 
@@ -54,14 +54,6 @@ module _ (c : Setup) (range : InRange c) (L : ℕ → Item) (w g s : ℕ) (one :
       let b = reached-le w g in
       position-le (x .head .position) (x .head .level) (suc w) (omega arith)
 
-  -- its level is one of its position
-  head-level : x .head .level ≤ lg (x .head .position)
-  head-level =
-      let h = head-in-log (userCount (publicTo c (c .count))) (x .head) (ok .ready .head) in
-      cases-eq (x .head .position) 0
-      (λ e. let z = h .0 e in omega arith)
-      (λ n. in-log (x .head .position) (x .head .level) (h .1 (positive (x .head .position) n)) .1 .1)
-
   -- where it has reserved level l already, the head is there or above
   pub head-here : (l : ℕ) → l ≤ lg (suc w) → l < g → owner (c .servers) (suc w) l ≡ s → (x .head .position ≡ suc w) × (l ≤ x .head .level)
   head-here l a b o =
@@ -73,7 +65,7 @@ module _ (c : Setup) (range : InRange c) (L : ℕ → Item) (w g s : ℕ) (one :
       let up =
       above-own (c .servers) s (reached w g) (label (x .head .position) (x .head .level)) (label (suc w) l) some-servers last (ok .head)
       (sym (owner-label (c .servers) (suc w) l some-servers) ∙ o) (omega arith) low in
-      let far = position-gt (x .head .position) (x .head .level) w head-level (omega arith) in
+      let far = position-gt (x .head .position) (x .head .level) w (head-level (userCount (publicTo c (c .count))) (x .head) (ok .ready .head)) (omega arith) in
       let there : x .head .position ≡ suc w = let t = head-top in omega arith in
       let same : label (x .head .position) (x .head .level) ≡ label (suc w) (x .head .level) = ap (λ (p : ℕ). label p (x .head .level)) there in
       (there, let f = label-is w (x .head .level) in omega arith)
