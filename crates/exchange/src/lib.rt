@@ -1,3 +1,3 @@
-// A user's and a server's part in an exchange, each kept in one slice of bytes: steps of a user and calls of a server, over `lent_bytes`.
+// For programs: a user and a server of a log, each in one slice of bytes; steps of the user and calls of the server, over `lent_bytes`.
 pub mod server_place;
 pub mod user_place;

@@ -7,8 +7,6 @@ mod fork;
 mod group;
 mod report;
 mod run;
-mod script;
-mod sentence;
 mod world;
 
 use group::Group;

@@ -1,13 +1,12 @@
 // What is printed.
+use crate::board;
 use crate::group::Group;
-use crate::script;
-use crate::script::Command;
-use crate::script::Fault;
-use crate::sentence;
-use crate::world;
 use exchange::user_place;
 use lent_bytes::using::SettledAnswer;
 use programs::print;
+use programs::sentence;
+use script::Command;
+use script::Fault;
 use sha256::bytes;
 use tree::label;
 
@@ -131,7 +130,7 @@ pub fn entry(position: u32, place: &[u8]) {
     print::number(b"  position ", position as usize);
     print::number(b" by user ", author as usize);
     print::text(b": ");
-    let target = world::target(place);
+    let target = board::target(place);
     if target == 0 {
         print::text(bytes::from(user_place::entry_of(place), 1));
     } else {
@@ -162,11 +161,13 @@ pub fn settled(g: Group, own: u8, position: u32, s: SettledAnswer, place: &[u8])
     print::number(b" by user ", author as usize);
     if author != own as u16 {
         print::text(b" is not this user's own\n");
-    } else if s.settled == 1 {
-        print::text(b" is settled\n");
-    } else {
-        print::text(b" is not settled yet\n");
+        return;
     }
+    if s.settled == 1 {
+        print::text(b" is settled\n");
+        return;
+    }
+    print::text(b" is not settled yet\n");
 }
 
 // Q of a position, after what comes before it.

@@ -5,12 +5,11 @@ use crate::fork;
 use crate::group;
 use crate::group::Group;
 use crate::report;
-use crate::script;
-use crate::script::Command;
-use crate::script::Word;
 use crate::world;
 use exchange::user_place;
 use programs::print;
+use script::Command;
+use script::Word;
 use sha256::bytes;
 
 // Runs a line, and answers the group after it. A line with a fault changes nothing.

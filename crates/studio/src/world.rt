@@ -62,14 +62,6 @@ fn greater(a: u32, b: u32) -> u32 {
     a
 }
 
-// The position that the entry which was read last strikes, 0 for an insertion.
-pub fn target(place: &[u8]) -> u32 {
-    if bytes::byte_at(place, user_place::ENTRY) == 2 {
-        return bytes::u32_at(place, user_place::ENTRY + 1);
-    }
-    0
-}
-
 // A new log: users have version 0 and no write open, and servers nothing reserved and nothing stored.
 pub fn begin(world: &mut [u8]) {
     begin_user(1, world);

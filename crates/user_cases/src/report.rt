@@ -55,7 +55,7 @@ fn found(place: &[u8]) {
 
 // Whether the position that a line says is settled.
 pub fn settled(f: [u32; 16], keys: &[u8], place: &mut [u8]) {
-    let s = step::with(f, 0, f[3], place);
+    let s = step::prepare(f, 0, f[3], place);
     let r = user_place::settled(s, keys, place);
     print::number(b": code ", r.code as usize);
     if r.settled == 1 {

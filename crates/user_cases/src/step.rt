@@ -29,8 +29,8 @@ pub fn settings(f: [u32; 16], place: &[u8]) -> [u32; 12] {
     line::changed(usual(2 - f[0] % 2, place), f)
 }
 
-// What a step of a kind is made with. What is kept is laid as the settings have it.
-pub fn with(f: [u32; 16], kind: u8, number: u32, place: &mut [u8]) -> Settings {
+// Lays what is kept as the settings of a line have it, and hands back what a step of a kind is made with.
+pub fn prepare(f: [u32; 16], kind: u8, number: u32, place: &mut [u8]) -> Settings {
     let s = settings(f, place);
     let marks = [(s[6] % 256) as u8, (s[7] % 256) as u8];
     bytes::put(place, 0, &bytes::be4(s[4]));
@@ -49,6 +49,6 @@ pub fn with(f: [u32; 16], kind: u8, number: u32, place: &mut [u8]) -> Settings {
 
 // The start of an Update, of a Write of an entry or of a Read, or an answer taken in.
 pub fn step(f: [u32; 16], kind: u8, number: u32, input: &[u8], keys: &[u8], place: &mut [u8]) {
-    let s = with(f, kind, number, place);
+    let s = prepare(f, kind, number, place);
     user_place::step(s, keys, input, place);
 }
