@@ -1,12 +1,10 @@
-// One call of the server on a place of 8,192 bytes: the head and the used length in the first 48, then the store.
+// One call of the server on a place of 8,192 bytes.
 ghost use mathlib.Core.Path.{_≡_};
 ghost use lib.ListN.{length};
-use programs::key;
+use exchange::server_place;
+use lent_bytes::serving::Served;
 use programs::line;
-use programs::place as server_place;
 use programs::print;
-use server::Head;
-use server::Out;
 use sha256::bytes;
 use tree::digest;
 
@@ -19,9 +17,9 @@ pub fn usual(own: u32, request: u32, place: &[u8]) -> [u32; 12] {
         own,
         112,
         bytes::u32_at(place, 0),
-        bytes::byte_at(place, 4) as u32,
-        bytes::u16_at(place, 6) as u32,
-        bytes::u32_at(place, 40),
+        bytes::byte_at(place, server_place::LEVEL) as u32,
+        bytes::u16_at(place, server_place::AUTHOR) as u32,
+        bytes::u32_at(place, server_place::USED),
         8144,
         request,
         2552,
@@ -29,72 +27,52 @@ pub fn usual(own: u32, request: u32, place: &[u8]) -> [u32; 12] {
     ]
 }
 
-// The call with these settings. What it leaves is printed, and written to the place.
-pub fn serve(s: [u32; 12], users: &[u8], place: &mut [u8], request: &[u8])
+// The call with these settings. What it leaves is printed, and is in the place.
+pub fn serve(s: [u32; 12], keys: &[u8], place: &mut [u8], request: &[u8])
     requires { ⌜ length (now place) ≡ 8192 ⌝ }
 {
-    let head = head_of(s, place);
+    lay(s, place);
     let end = 48 + line::at_most(s[8], 8144);
     let room = line::at_most(s[10], 2552);
     let mut answer = [0u8; 2552];
-    let out = lent(
+    lent(
         s,
-        head,
-        users,
-        &mut place[48..end],
-        request,
+        keys,
+        &mut place[0..end],
+        bytes::front(request, s[9] as usize),
         &mut answer[0..room],
     );
-    server_place::save(out, place);
 }
 
-// The head of the settings, with the digest of the place.
-fn head_of(s: [u32; 12], place: &[u8]) -> Head {
-    let digest = digest::piece(bytes::from(place, 8), 0);
-    Head {
-        position: s[4],
-        level: (s[5] % 256) as u8,
-        author: (s[6] % 65536) as u16,
-        digest,
-    }
+// Lays the head and the used length of the settings; the digest is the place's.
+fn lay(s: [u32; 12], place: &mut [u8]) {
+    let author = bytes::be2((s[6] % 65536) as u16);
+    bytes::put2(place, 0, &bytes::be4(s[4]), &[(s[5] % 256) as u8]);
+    bytes::put(place, server_place::AUTHOR, &author);
+    bytes::put(place, server_place::USED, &bytes::be4(s[7]));
 }
 
-// The call on a store and an answer buffer of the lengths that the settings name.
-fn lent(
-    s: [u32; 12],
-    head: Head,
-    users: &[u8],
-    store: &mut [u8],
-    request: &[u8],
-    answer: &mut [u8],
-) -> Out {
-    let out = server::serve(
-        (s[1] % 256) as u8,
-        (s[2] % 256) as u8,
-        key::LOG,
-        bytes::front(users, s[3] as usize),
-        head,
-        store,
-        s[7] as usize,
-        bytes::front(request, s[9] as usize),
-        answer,
-    );
-    report(out, store, answer);
-    out
+// The call on a place with a store, and on an answer buffer, of the lengths that the settings name.
+fn lent(s: [u32; 12], keys: &[u8], place: &mut [u8], request: &[u8], answer: &mut [u8]) {
+    let users = bytes::front(keys, s[3] as usize);
+    let out = server_place::serve(s[1], s[2], users, place, request, answer);
+    report(out, place, answer);
 }
 
-// What a call gave, and the store and the answer buffer that it left, to the line's end.
-fn report(out: Out, store: &[u8], answer: &[u8]) {
-    let head = out.head;
-    let d = head.digest;
+// What a call gave, and the place and the answer buffer that it left, to the line's end.
+fn report(out: Served, place: &[u8], answer: &[u8]) {
+    let level = bytes::byte_at(place, server_place::LEVEL);
+    let author = bytes::u16_at(place, server_place::AUTHOR);
+    let digest = digest::piece(bytes::from(place, server_place::DIGEST), 0);
+    let store = sha256::hash(bytes::from(place, server_place::STORE));
     print::number(b": code ", out.code as usize);
-    print::number(b" head ", head.position as usize);
-    print::number(b" ", head.level as usize);
-    print::number(b" ", head.author as usize);
-    print::figures(b" ", d);
-    print::number(b" used ", out.used);
-    print::number(b" answered ", out.answered);
-    print::figures(b" store ", sha256::hash(store));
+    print::number(b" head ", bytes::u32_at(place, 0) as usize);
+    print::number(b" ", level as usize);
+    print::number(b" ", author as usize);
+    print::figures(b" ", digest);
+    print::number(b" used ", out.used as usize);
+    print::number(b" answered ", out.answer as usize);
+    print::figures(b" store ", store);
     print::figures(b" answer ", sha256::hash(answer));
     print::text(b"\n");
 }

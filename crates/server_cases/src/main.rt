@@ -11,23 +11,24 @@ use programs::key;
 use sha256::bytes;
 
 fn main() {
-    let mut trees = [0u8; 131008];
-    let mut users = [0u8; 3640];
-    key::keys(&mut trees, &mut users);
+    let mut memory = key::memory();
+    let keys: &mut [u8] = &mut memory;
+    key::make(1, keys);
+    key::make(2, keys);
     let mut text = io::large_buffer();
     let n = file::read(&mut text);
-    rows(bytes::front(&text, n), &users, &trees);
+    rows(bytes::front(&text, n), keys);
 }
 
 // The calls of all lines, one after the other, on eight servers that begin with nothing reserved and nothing stored.
-fn rows(text: &[u8], users: &[u8], trees: &[u8]) {
+fn rows(text: &[u8], keys: &[u8]) {
     let mut world = io::large_buffer();
     let servers: &mut [u8] = &mut world;
     let mut at: usize = 0;
     while at < text.len() {
         let rest = bytes::from(text, at);
         let n = lines::find(rest, b'\n');
-        row::run(bytes::front(rest, n), servers, users, trees);
+        row::run(bytes::front(rest, n), servers, keys);
         at += n + 1;
     }
 }

@@ -9,7 +9,7 @@ use programs::print;
 use sha256::bytes;
 
 // Makes the call that a line says, and prints the line's name and what the call gave.
-pub fn run(text: &[u8], world: &mut [u8], users: &[u8], trees: &[u8]) {
+pub fn run(text: &[u8], world: &mut [u8], keys: &[u8]) {
     let n = lines::find(text, b':');
     let f = line::numbers(bytes::from(bytes::from(text, n), 2));
     let at = (f[0] % 8) as usize * 8192;
@@ -17,19 +17,19 @@ pub fn run(text: &[u8], world: &mut [u8], users: &[u8], trees: &[u8]) {
     bytes::put(&mut place, 0, bytes::front(bytes::from(world, at), 8192));
     line::patch(&mut place, 3000, 48, f[10], f[11]);
     print::text(bytes::front(text, n));
-    made(f, &mut place, users, trees);
+    made(f, &mut place, keys);
     if f[1] == 1 {
         bytes::put(world, at, &place);
     }
 }
 
 // The call of a line on a server's place, with the changes that the line names.
-fn made(f: [u32; 16], place: &mut [u8], users: &[u8], trees: &[u8])
+fn made(f: [u32; 16], place: &mut [u8], keys: &[u8])
     requires { ⌜ length (now place) ≡ 8192 ⌝ }
 {
     let mut request = [0u8; 2600];
-    let n = user::request(f, trees, &mut request);
+    let n = user::request(f, keys, &mut request);
     let s = call::usual(f[0], n, place);
     line::patch(&mut request, 100, 0, f[10], f[11]);
-    call::serve(line::changed(s, f), users, place, &request);
+    call::serve(line::changed(s, f), keys, place, &request);
 }

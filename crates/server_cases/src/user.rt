@@ -44,7 +44,7 @@ fn node_of(p: u32, l: u8) -> [u8; 32] {
 }
 
 // Writes the request that a line says to the front of q, and answers its length.
-pub fn request(f: [u32; 16], trees: &[u8], q: &mut [u8]) -> u32 {
+pub fn request(f: [u32; 16], keys: &[u8], q: &mut [u8]) -> u32 {
     let body = f[6];
     let d = f[7];
     if body == 1 {
@@ -60,7 +60,7 @@ pub fn request(f: [u32; 16], trees: &[u8], q: &mut [u8]) -> u32 {
         return 58;
     }
     if body == 4 {
-        put(f, &signed(f, trees), q);
+        put(f, &signed(f, keys), q);
         return 2566;
     }
     put(f, &[7u8; 2540], q);
@@ -75,14 +75,14 @@ fn put(f: [u32; 16], body: &[u8], q: &mut [u8]) {
 }
 
 // The body of a Commit: the digest, and a key's signature of that number, which also makes up the randomizer.
-fn signed(f: [u32; 16], trees: &[u8]) -> [u8; 2540] {
+fn signed(f: [u32; 16], keys: &[u8]) -> [u8; 2540] {
     let name = (f[8] % 256) as u8;
     let digest = digest_of(f[7]);
     let text = message::signed_text(key::LOG, f[4], digest);
     let mut body = [0u8; 2540];
     bytes::put(&mut body, 0, &digest);
     let randomizer = [(f[9] % 256) as u8; 32];
-    let tree = key::tree_of(trees, name);
+    let tree = key::tree_of(keys, name);
     lms::sign(
         [name; 32],
         [name; 16],

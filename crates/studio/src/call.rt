@@ -1,257 +1,117 @@
-// A user's calls, each driven to its end by the answers of the servers.
+// A user's calls, each driven by the answers of the servers. What a call leaves is in the user's place.
 ghost use Prim.Native.Nat.{_≤_};
-use crate::group;
 use crate::group::Group;
-use crate::memory;
-use crate::place;
-use programs::key;
+use crate::world;
+use exchange::server_place;
+use exchange::user_place;
+use exchange::user_place::Settings;
 use sha256::bytes;
-use user::call::Kept;
-use user::call::Step;
-use user_read::call::Found;
-use user_read::call::Read;
-use user_read::call::ReadStep;
-use user_update::call::Update;
-use user_update::call::UpdateStep;
-use user_write::call::Write;
-use user_write::call::WriteStep;
 
-// A call that takes no more answers: its last step, what the user keeps, and how many answers it took in, the refused one too.
-pub struct Done {
-    pub step: Step,
-    pub kept: Kept,
-    pub answers: usize,
+// What a step of a kind is made with: three users are listed.
+pub fn settings(g: Group, own: u8, kind: u8, number: u32) -> Settings {
+    Settings {
+        servers: g.servers as u32,
+        own: own as u32,
+        kind,
+        number,
+        users: 168,
+        tree: 65504,
+        request: 2566,
+        entry: 1024,
+    }
 }
 
-// The same of a Read, and what it found.
-pub struct Fetched {
-    pub done: Done,
-    pub found: Found,
+// One step of a user.
+fn step(s: Settings, input: &[u8], world: &mut [u8], keys: &[u8]) {
+    let at = world::user_at((s.own % 256) as u8);
+    if world.len() < at + 16384 {
+        return;
+    }
+    user_place::step(s, keys, input, &mut world[at..at + 16384]);
 }
 
-// 1 where a step waits for an answer, 0 where its call has ended.
-fn waits(step: Step) -> usize
-    ensures { λ r. ⌜ r ≤ 1 ⌝ }
+// Where the place begins that a user's request to a server goes to: the second copy's for an even user of a forked log, unless the server
+// follows the rules.
+fn server_at(g: Group, own: u8, server: u8) -> usize
+    ensures { λ r. ⌜ r ≤ 2097152 ⌝ }
 {
-    if step.ended {
+    let at = 65536 * ((server as usize + 15) % 16 + 1);
+    if !g.forked {
+        return at;
+    }
+    if server == g.honest {
+        return at;
+    }
+    if own % 2 == 1 {
+        return at;
+    }
+    at + 1048576
+}
+
+// The answer of the server that a user asks, in the answer buffer; its length is handed back.
+fn ask(g: Group, own: u8, world: &mut [u8], keys: &[u8], answer: &mut [u8]) -> usize {
+    let mut request = [0u8; 2566];
+    let place = world::user(own, world);
+    let server = bytes::byte_at(place, user_place::SERVER);
+    let asked = user_place::request_of(place);
+    let n = asked.len();
+    bytes::put(&mut request, 0, asked);
+    let at = server_at(g, own, server);
+    if world.len() < at + 65536 {
         return 0;
     }
-    1
-}
-
-// The answer of the server that a step asks, in the answer buffer; its length is handed back.
-fn ask(
-    g: Group,
-    own: u16,
-    step: Step,
-    servers: &mut [u8],
-    users: &[u8],
-    request: &[u8],
-    answer: &mut [u8],
-) -> usize {
-    place::serve(
-        g,
-        own,
-        step.server,
-        users,
-        servers,
-        bytes::front(request, step.length as usize),
+    let out = server_place::serve(
+        g.servers as u32,
+        server as u32,
+        bytes::front(keys, 168),
+        &mut world[at..at + 65536],
+        bytes::front(&request, n),
         answer,
-    )
+    );
+    out.answer as usize
 }
 
-// One answer of an Update, if it has not ended.
-fn update_turn(
-    s: UpdateStep,
-    g: Group,
-    own: u16,
-    servers: &mut [u8],
-    users: &[u8],
-    hashes: &mut [u8; 1248],
-    request: &mut [u8; 2566],
-) -> UpdateStep {
-    let step = s.step;
-    if step.ended {
-        return s;
-    }
+// One answer of the server that a user asks, taken in.
+fn turn(g: Group, own: u8, world: &mut [u8], keys: &[u8]) {
     let mut answer = [0u8; 2552];
-    let n = ask(g, own, step, servers, users, request, &mut answer);
-    let call = s.call;
-    call.take(
-        g.servers,
-        own,
-        key::LOG,
-        users,
-        s.kept,
+    let n = ask(g, own, world, keys, &mut answer);
+    step(
+        settings(g, own, 0, 0),
         bytes::front(&answer, n),
-        hashes,
-        request,
-    )
+        world,
+        keys,
+    );
 }
 
-// An Update, to its end. No call takes more than 99 answers.
-pub fn update(g: Group, own: u16, kept: Kept, servers: &mut [u8], users: &[u8]) -> Done {
-    let mut hashes = [0u8; 1248];
-    let mut request = [0u8; 2566];
-    let mut s = Update::start(g.servers, own, key::LOG, users, kept, &mut request);
-    let mut answers: usize = 0;
-    let mut turns: usize = 0;
-    while turns < 99 {
-        answers += waits(s.step);
-        let next = update_turn(s, g, own, servers, users, &mut hashes, &mut request);
-        s = next;
-        turns += 1;
+// Takes in at most this many answers, until the call ends, and answers how many they were, a refused one too.
+fn answers(g: Group, own: u8, most: u32, world: &mut [u8], keys: &[u8]) -> usize {
+    let mut taken: u32 = 0;
+    while taken < most {
+        if user_place::ended(world::user(own, world)) {
+            return taken as usize;
+        }
+        turn(g, own, world, keys);
+        taken += 1;
     }
-    let step = s.step;
-    let after = s.kept;
-    Done {
-        step,
-        kept: after,
-        answers,
-    }
+    taken as usize
 }
 
-// One answer of a Read, if it has not ended.
-fn read_turn(
-    s: ReadStep,
-    g: Group,
-    own: u16,
-    kept: Kept,
-    servers: &mut [u8],
-    users: &[u8],
-    hashes: &mut [u8; 1248],
-    held: &mut [u8; 1026],
-    request: &mut [u8; 2566],
-    entry: &mut [u8; 1024],
-) -> ReadStep {
-    let step = s.step;
-    if step.ended {
-        return s;
-    }
-    let mut answer = [0u8; 2552];
-    let n = ask(g, own, step, servers, users, request, &mut answer);
-    let call = s.call;
-    call.take(
-        g.servers,
-        own,
-        key::LOG,
-        users,
-        kept,
-        bytes::front(&answer, n),
-        hashes,
-        held,
-        request,
-        entry,
-    )
+// An Update, to its end, and how many answers it took in. No call takes more than 99.
+pub fn update(g: Group, own: u8, world: &mut [u8], keys: &[u8]) -> usize {
+    step(settings(g, own, 1, 0), b"", world, keys);
+    answers(g, own, 99, world, keys)
 }
 
-// The start of a Read.
-fn read_start(
-    g: Group,
-    own: u16,
-    kept: Kept,
-    position: u32,
-    users: &[u8],
-    request: &mut [u8; 2566],
-    entry: &[u8; 1024],
-) -> ReadStep {
-    Read::start(
-        g.servers,
-        own,
-        key::LOG,
-        users,
-        kept,
-        position,
-        request,
-        entry,
-    )
+// A Write of an entry, or of the open one that it resumes, for at most `most` answers. Its randomizer is the own number 32 times.
+pub fn write(g: Group, own: u8, entry: &[u8], most: u32, world: &mut [u8], keys: &[u8]) -> usize {
+    step(settings(g, own, 2, own as u32), entry, world, keys);
+    answers(g, own, most, world, keys)
 }
 
-// A Read of a position, to its end. The entry is in its buffer where the code is 0.
-pub fn read(
-    g: Group,
-    own: u16,
-    kept: Kept,
-    position: u32,
-    servers: &mut [u8],
-    users: &[u8],
-    entry: &mut [u8; 1024],
-) -> Fetched {
-    let mut hashes = [0u8; 1248];
-    let mut held = [0u8; 1026];
-    let mut request = [0u8; 2566];
-    let mut s = read_start(g, own, kept, position, users, &mut request, entry);
-    let mut answers: usize = 0;
-    let mut turns: usize = 0;
-    while turns < 99 {
-        answers += waits(s.step);
-        let next = read_turn(
-            s,
-            g,
-            own,
-            kept,
-            servers,
-            users,
-            &mut hashes,
-            &mut held,
-            &mut request,
-            entry,
-        );
-        s = next;
-        turns += 1;
-    }
-    read_done(s, kept, answers)
-}
-
-fn read_done(s: ReadStep, kept: Kept, answers: usize) -> Fetched {
-    let step = s.step;
-    let found = s.found;
-    let done = Done {
-        step,
-        kept,
-        answers,
-    };
-    Fetched { done, found }
-}
-
-// One answer of a Write, if it has not ended.
-fn write_turn(
-    s: WriteStep,
-    g: Group,
-    own: u16,
-    servers: &mut [u8],
-    users: &[u8],
-    tree: &[u8],
-    path: &mut [u8; 672],
-    signature: &mut [u8; 2508],
-    hashes: &mut [u8; 1248],
-    held: &[u8; 1026],
-    request: &mut [u8; 2566],
-) -> WriteStep {
-    let step = s.step;
-    if step.ended {
-        return s;
-    }
-    let mut answer = [0u8; 2552];
-    let n = ask(g, own, step, servers, users, request, &mut answer);
-    let call = s.call;
-    let a = (own % 256) as u8;
-    call.take(
-        g.servers,
-        own,
-        key::LOG,
-        users,
-        s.kept,
-        [a; 16],
-        [a; 32],
-        tree,
-        bytes::front(&answer, n),
-        path,
-        signature,
-        hashes,
-        held,
-        request,
-    )
+// A Read of a position, to its end. The entry is in the place's entry buffer where the code is 0.
+pub fn read(g: Group, own: u8, position: u32, world: &mut [u8], keys: &[u8]) -> usize {
+    step(settings(g, own, 3, position), b"", world, keys);
+    answers(g, own, 99, world, keys)
 }
 
 // The lesser of two numbers.
@@ -262,156 +122,4 @@ pub fn lesser(a: u32, b: u32) -> u32
         return a;
     }
     b
-}
-
-// A Write that has started, for at most `most` answers.
-fn write_on(
-    s: WriteStep,
-    most: u32,
-    g: Group,
-    own: u16,
-    servers: &mut [u8],
-    users: &[u8],
-    tree: &[u8],
-    path: &mut [u8; 672],
-    signature: &mut [u8; 2508],
-    held: &[u8; 1026],
-    request: &mut [u8; 2566],
-) -> Done {
-    let mut hashes = [0u8; 1248];
-    let mut now = s;
-    let mut answers: usize = 0;
-    let last = lesser(most, 99);
-    let mut turns: u32 = 0;
-    while turns < last {
-        answers += waits(now.step);
-        let next = write_turn(
-            now,
-            g,
-            own,
-            servers,
-            users,
-            tree,
-            path,
-            signature,
-            &mut hashes,
-            held,
-            request,
-        );
-        now = next;
-        turns += 1;
-    }
-    write_done(now, answers)
-}
-
-fn write_done(s: WriteStep, answers: usize) -> Done {
-    let step = s.step;
-    let kept = s.kept;
-    Done {
-        step,
-        kept,
-        answers,
-    }
-}
-
-// The start of a Write.
-fn write_start(
-    g: Group,
-    own: u16,
-    kept: Kept,
-    users: &[u8],
-    tree: &[u8],
-    entry: &[u8],
-    path: &[u8; 672],
-    held: &mut [u8; 1026],
-    request: &mut [u8; 2566],
-) -> WriteStep {
-    let a = (own % 256) as u8;
-    Write::start(
-        g.servers,
-        own,
-        key::LOG,
-        users,
-        kept,
-        tree,
-        entry,
-        [a; 32],
-        path,
-        held,
-        request,
-    )
-}
-
-// A Write from its start on, for at most `most` answers.
-fn write_from(
-    g: Group,
-    own: u16,
-    kept: Kept,
-    entry: &[u8],
-    most: u32,
-    servers: &mut [u8],
-    users: &[u8],
-    tree: &[u8],
-    path: &mut [u8; 672],
-    signature: &mut [u8; 2508],
-) -> Done {
-    let mut held = [0u8; 1026];
-    let mut request = [0u8; 2566];
-    let s = write_start(
-        g,
-        own,
-        kept,
-        users,
-        tree,
-        entry,
-        path,
-        &mut held,
-        &mut request,
-    );
-    write_on(
-        s,
-        most,
-        g,
-        own,
-        servers,
-        users,
-        tree,
-        path,
-        signature,
-        &held,
-        &mut request,
-    )
-}
-
-// A Write of an entry, or of the open one that it resumes, for at most `most` answers. What is kept is in the memory then.
-pub fn write(
-    g: Group,
-    own: u16,
-    entry: &[u8],
-    most: u32,
-    memory: &mut [u8],
-    servers: &mut [u8],
-    users: &[u8],
-    trees: &[u8],
-) -> Done {
-    let tree = bytes::from(trees, 65504 * group::before(own));
-    let mut path = [0u8; 672];
-    let mut signature = [0u8; 2508];
-    memory::load_open(own, memory, &mut path, &mut signature);
-    let kept = memory::kept_of(own, memory);
-    let done = write_from(
-        g,
-        own,
-        kept,
-        entry,
-        most,
-        servers,
-        users,
-        tree,
-        &mut path,
-        &mut signature,
-    );
-    memory::keep(own, done.kept, memory);
-    memory::keep_open(own, &path, &signature, memory);
-    done
 }

@@ -5,32 +5,30 @@ mod board;
 mod call;
 mod fork;
 mod group;
-mod memory;
-mod place;
 mod report;
 mod run;
-mod script;
-mod sentence;
+mod world;
 
 use group::Group;
 use libc::STDIN_FILENO;
+use programs::key;
 use sha256::bytes;
 
 fn main() {
-    let mut trees = group::no_trees();
-    let mut users = [0u8; 168];
-    group::keys(&mut trees, &mut users);
+    let mut memory = key::memory();
+    let keys: &mut [u8] = &mut memory;
+    key::make(1, keys);
+    key::make(2, keys);
+    key::make(3, keys);
     let mut text = io::large_buffer();
     let n = io::read_full(STDIN_FILENO, &mut text);
-    lines_of(bytes::front(&text, n), &users, &trees);
+    lines_of(bytes::front(&text, n), keys);
 }
 
 // Runs the lines one after the other, on four servers until the script says otherwise.
-fn lines_of(text: &[u8], users: &[u8], trees: &[u8]) {
-    let mut places = place::zeros();
-    let servers: &mut [u8] = &mut places;
-    let mut kept = [0u8; 12288];
-    let memory: &mut [u8] = &mut kept;
+fn lines_of(text: &[u8], keys: &[u8]) {
+    let mut places = world::zeros();
+    let world: &mut [u8] = &mut places;
     let mut group = group::fresh(4);
     let mut number: usize = 0;
     let mut at = 0;
@@ -38,15 +36,7 @@ fn lines_of(text: &[u8], users: &[u8], trees: &[u8]) {
         let rest = bytes::from(text, at);
         let n = lines::find(rest, b'\n');
         number += 1;
-        group = run::line(
-            bytes::front(rest, n),
-            number,
-            group,
-            memory,
-            servers,
-            users,
-            trees,
-        );
+        group = run::line(bytes::front(rest, n), number, group, world, keys);
         at += n + 1;
     }
 }

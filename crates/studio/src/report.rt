@@ -1,16 +1,14 @@
 // What is printed.
 use crate::board;
-use crate::call::Done;
-use crate::call::Fetched;
 use crate::group::Group;
-use crate::script;
-use crate::script::Command;
-use crate::script::Fault;
-use crate::sentence;
+use exchange::user_place;
+use lent_bytes::using::SettledAnswer;
 use programs::print;
+use programs::sentence;
+use script::Command;
+use script::Fault;
 use sha256::bytes;
 use tree::label;
-use user::call::Settled;
 
 // A line of the script, before what it does.
 pub fn echo(line: &[u8]) {
@@ -68,38 +66,38 @@ pub fn begun(g: Group) {
     print::text(b" servers; users 1, 2 and 3 have version 0\n");
 }
 
-// A call: its code and the server's, how many answers it took in, and what is kept.
-pub fn call(done: Done) {
-    let step = done.step;
-    let kept = done.kept;
-    print::number(b"  code ", step.code as usize);
-    if step.code == 11 {
-        print::number(b", server's code ", step.refusal as usize);
+// A user's call: its code and the server's, how many answers it took in, and what is kept.
+pub fn call(place: &[u8], answers: usize) {
+    let code = bytes::byte_at(place, user_place::CODE);
+    let refusal = bytes::byte_at(place, user_place::REFUSAL);
+    print::number(b"  code ", code as usize);
+    if code == 11 {
+        print::number(b", server's code ", refusal as usize);
     }
-    print::number(b", answers ", done.answers);
-    print::number(b", version ", kept.version as usize);
-    print::number(b", next signature ", kept.number as usize);
+    print::number(b", answers ", answers);
+    print::number(b", version ", bytes::u32_at(place, 0) as usize);
+    let number = bytes::u32_at(place, user_place::NUMBER);
+    print::number(b", next signature ", number as usize);
     print::text(b"\n");
-    sentence::refusal(step.code, step.refusal);
+    sentence::refusal(code, refusal);
 }
 
 // A Write that waits for an answer that does not come.
-pub fn cut(done: Done) {
-    let step = done.step;
-    let kept = done.kept;
-    if step.ended {
+pub fn cut(place: &[u8]) {
+    if user_place::ended(place) {
         return;
     }
-    print::number(b"  the request to server ", step.server as usize);
-    if kept.opened {
-        print::number(
-            b" is lost; the write is open at position ",
-            next(kept.version) as usize,
-        );
-        print::text(b"\n");
-    } else {
+    let server = bytes::byte_at(place, user_place::SERVER);
+    print::number(b"  the request to server ", server as usize);
+    if bytes::byte_at(place, user_place::OPENED) == 0 {
         print::text(b" is lost; the write was not open yet, and nothing of it is kept\n");
+        return;
     }
+    print::number(
+        b" is lost; the write is open at position ",
+        next(bytes::u32_at(place, 0)) as usize,
+    );
+    print::text(b"\n");
 }
 
 // The position after v.
@@ -111,32 +109,30 @@ pub fn next(v: u32) -> u32 {
 }
 
 // Says that a Read was refused, and whether it was.
-pub fn refused_read(position: u32, done: Done) -> bool {
-    let step = done.step;
-    if step.code == 0 {
+pub fn refused_read(position: u32, place: &[u8]) -> bool {
+    let code = bytes::byte_at(place, user_place::CODE);
+    if code == 0 {
         return false;
     }
     print::number(b"  reading position ", position as usize);
-    print::number(b": code ", step.code as usize);
+    print::number(b": code ", code as usize);
     print::text(b"\n");
-    sentence::refusal(step.code, step.refusal);
+    sentence::refusal(code, bytes::byte_at(place, user_place::REFUSAL));
     true
 }
 
 // What a Read found, where it did not end with a refusal.
-pub fn entry(position: u32, f: Fetched, entry: &[u8; 1024]) {
-    let done = f.done;
-    let step = done.step;
-    let found = f.found;
-    if step.code != 0 {
+pub fn entry(position: u32, place: &[u8]) {
+    if bytes::byte_at(place, user_place::CODE) != 0 {
         return;
     }
+    let author = bytes::u16_at(place, user_place::AUTHOR);
     print::number(b"  position ", position as usize);
-    print::number(b" by user ", found.author as usize);
+    print::number(b" by user ", author as usize);
     print::text(b": ");
-    let target = board::target(entry);
+    let target = board::target(place);
     if target == 0 {
-        print::text(bytes::from(bytes::front(entry, found.length as usize), 1));
+        print::text(bytes::from(user_place::entry_of(place), 1));
     } else {
         print::number(b"strike ", target as usize);
     }
@@ -144,33 +140,34 @@ pub fn entry(position: u32, f: Fetched, entry: &[u8; 1024]) {
 }
 
 // Above a board.
-pub fn board(own: u16, n: usize) {
+pub fn board(own: u8, n: usize) {
     print::number(b"  the board of user ", own as usize);
     print::number(b" after ", n);
     print::text(b" entries\n");
 }
 
-// Whether an operation is settled. Only an own one is.
-pub fn settled(g: Group, own: u16, position: u32, version: u32, s: Settled, author: u16) {
+// Whether the operation is settled that a user has read. Only an own one is.
+pub fn settled(g: Group, own: u8, position: u32, s: SettledAnswer, place: &[u8]) {
     print::number(b"  code ", s.code as usize);
-    print::number(b", version ", version as usize);
+    print::number(b", version ", bytes::u32_at(place, 0) as usize);
     wait(b", ", g, position);
     print::text(b"\n");
-    sentence::refusal(s.code, 0);
     if s.code != 0 {
+        sentence::refusal((s.code % 256) as u8, 0);
         return;
     }
+    let author = bytes::u16_at(place, user_place::AUTHOR);
     print::number(b"  operation ", position as usize);
     print::number(b" by user ", author as usize);
-    if author != own {
+    if author != own as u16 {
         print::text(b" is not this user's own\n");
         return;
     }
-    if s.settled {
+    if s.settled == 1 {
         print::text(b" is settled\n");
-    } else {
-        print::text(b" is not settled yet\n");
+        return;
     }
+    print::text(b" is not settled yet\n");
 }
 
 // Q of a position, after what comes before it.
@@ -195,7 +192,7 @@ pub fn forked(g: Group) {
 }
 
 // A user that a refusal shows the fork.
-pub fn noticed(g: Group, own: u16, operation: u32) {
+pub fn noticed(g: Group, own: u8, operation: u32) {
     print::number(b"  fork at position ", next(g.common) as usize);
     print::number(b": user ", own as usize);
     print::number(b" notices it at operation ", operation as usize);
@@ -204,7 +201,7 @@ pub fn noticed(g: Group, own: u16, operation: u32) {
 }
 
 // Views that differ from position d on, with so many operations from there to the end of the shorter one.
-pub fn difference(g: Group, a: u16, b: u16, d: u32, operations: usize) {
+pub fn difference(g: Group, a: u8, b: u8, d: u32, operations: usize) {
     print::number(b"  users ", a as usize);
     print::number(b" and ", b as usize);
     print::number(b" read position ", d as usize);

@@ -2,7 +2,6 @@
 // Write that is cut after each of its answers and resumed. Each line of data/cases.txt is one step or a run of answers, and
 // data/README.md says what its numbers mean. What is printed is said there too.
 mod answer;
-mod memory;
 mod report;
 mod row;
 mod step;
@@ -12,25 +11,26 @@ use programs::key;
 use sha256::bytes;
 
 fn main() {
-    let mut trees = [0u8; 131008];
-    let mut users = [0u8; 3640];
-    key::keys(&mut trees, &mut users);
+    let mut memory = key::memory();
+    let keys: &mut [u8] = &mut memory;
+    key::make(1, keys);
+    key::make(2, keys);
     let mut text = io::large_buffer();
     let n = file::read(&mut text);
-    rows(bytes::front(&text, n), &users, &trees);
+    rows(bytes::front(&text, n), keys);
 }
 
 // All lines, one after the other: 16 places of users, and four servers that begin with nothing reserved and nothing stored.
-fn rows(text: &[u8], users: &[u8], trees: &[u8]) {
+fn rows(text: &[u8], keys: &[u8]) {
     let mut world = [0u8; 163840];
-    let mut group = [0u8; 65536];
+    let mut group = io::large_buffer();
     let places: &mut [u8] = &mut world;
     let servers: &mut [u8] = &mut group;
     let mut at: usize = 0;
     while at < text.len() {
         let rest = bytes::from(text, at);
         let n = lines::find(rest, b'\n');
-        row::run(bytes::front(rest, n), places, servers, users, trees);
+        row::run(bytes::front(rest, n), places, servers, keys);
         at += n + 1;
     }
 }

@@ -1,10 +1,9 @@
 // What is printed of a place after a step.
-use crate::memory;
 use crate::step;
-use programs::key;
+use exchange::user_place;
 use programs::print;
 use sha256::bytes;
-use user::settled;
+use tree::digest;
 
 // A byte of the place, after what it is.
 fn byte(what: &[u8], place: &[u8], at: usize) {
@@ -18,42 +17,48 @@ fn hash(what: &[u8], place: &[u8], at: usize, n: usize) {
 
 // The code of the last step and the server's, whether its call has ended, and what is kept but for the digest.
 pub fn step(place: &[u8]) {
-    byte(b": code ", place, 43);
-    byte(b" ", place, 44);
-    byte(b" ended ", place, 45);
+    byte(b": code ", place, user_place::CODE);
+    byte(b" ", place, user_place::REFUSAL);
+    byte(b" ended ", place, user_place::ENDED);
     print::number(b" version ", bytes::u32_at(place, 0) as usize);
-    print::number(b" number ", bytes::u32_at(place, 4) as usize);
-    byte(b" opened ", place, 8);
-    byte(b" signed ", place, 9);
+    print::number(
+        b" number ",
+        bytes::u32_at(place, user_place::NUMBER) as usize,
+    );
+    byte(b" opened ", place, user_place::OPENED);
+    byte(b" signed ", place, user_place::SIGNED);
 }
 
 // The last step, the kept digest, and the SHA-256 of the path, the signature, the request buffer and the entry buffer; of a Read the
 // author that it found and the length of the entry too.
 pub fn state(place: &[u8]) {
     step(place);
-    print::figures(b" digest ", memory::kept_digest(place));
-    hash(b" path ", place, memory::PATH, 672);
-    hash(b" signature ", place, memory::SIGNATURE, 2508);
-    hash(b" request ", place, memory::REQUEST, 2566);
-    hash(b" entry ", place, memory::ENTRY, 1024);
-    if bytes::byte_at(place, 42) == 3 {
-        print::number(b" found ", bytes::u16_at(place, 140) as usize);
-        print::number(b" ", bytes::u16_at(place, 142) as usize);
+    let digest = digest::piece(bytes::from(place, user_place::DIGEST), 0);
+    print::figures(b" digest ", digest);
+    hash(b" path ", place, user_place::PATH, 672);
+    hash(b" signature ", place, user_place::SIGNATURE, 2508);
+    hash(b" request ", place, user_place::REQUEST, 2566);
+    hash(b" entry ", place, user_place::ENTRY, 1024);
+    if bytes::byte_at(place, user_place::KIND) == 3 {
+        found(place);
     }
 }
 
-// Whether position p is settled.
-pub fn settled(p: u32, s: [u32; 12], users: &[u8], place: &[u8]) {
-    let r = settled::settled(
-        step::servers(s),
-        step::own(s),
-        key::LOG,
-        step::list(s, users),
-        step::kept_of(s, place),
-        p,
+// The author and the length of the entry that a Read found.
+fn found(place: &[u8]) {
+    print::number(
+        b" found ",
+        bytes::u16_at(place, user_place::AUTHOR) as usize,
     );
+    print::number(b" ", bytes::u16_at(place, user_place::LENGTH) as usize);
+}
+
+// Whether the position that a line says is settled.
+pub fn settled(f: [u32; 16], keys: &[u8], place: &mut [u8]) {
+    let s = step::prepare(f, 0, f[3], place);
+    let r = user_place::settled(s, keys, place);
     print::number(b": code ", r.code as usize);
-    if r.settled {
+    if r.settled == 1 {
         print::text(b" settled");
         return;
     }

@@ -6,10 +6,10 @@ use Rattle.server_cases.proofs.rows.Statement.{statement}
 use Rattle.server_cases.proofs.rows.Tie as tie
 
 abbrev Inv-loop : tie.InvT-loop
-Inv-loop text users trees servers₀ at₀ servers at = 0 ≤ at
+Inv-loop text keys servers₀ at₀ servers at = 0 ≤ at
 
 abbrev μ-loop : tie.MeasureT-loop
-μ-loop text users trees servers₀ at₀ servers at = length text - at
+μ-loop text keys servers₀ at₀ servers at = length text - at
 
 large-buffer-requires : tie.Need-large-buffer-requires Inv-loop μ-loop
 large-buffer-requires c κs = search needs

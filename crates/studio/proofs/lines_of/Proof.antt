@@ -6,19 +6,16 @@ use Rattle.studio.proofs.lines_of.Statement.{statement}
 use Rattle.studio.proofs.lines_of.Tie as tie
 
 abbrev Inv-loop : tie.InvT-loop
-Inv-loop text users trees servers₀ memory₀ group₀ number₀ at₀ servers memory group number at = number ≤ at
+Inv-loop text keys world₀ group₀ number₀ at₀ world group number at = number ≤ at
 
 abbrev μ-loop : tie.MeasureT-loop
-μ-loop text users trees servers₀ memory₀ group₀ number₀ at₀ servers memory group number at = length text - at
+μ-loop text keys world₀ group₀ number₀ at₀ world group number at = length text - at
 
 zeros-requires : tie.Need-zeros-requires Inv-loop μ-loop
 zeros-requires c κs = search needs
 
-slice-aggregate-servers : tie.Need-slice-aggregate-servers Inv-loop μ-loop
-slice-aggregate-servers c = search needs
-
-slice-aggregate-memory : tie.Need-slice-aggregate-memory Inv-loop μ-loop
-slice-aggregate-memory c = search needs
+slice-aggregate-world : tie.Need-slice-aggregate-world Inv-loop μ-loop
+slice-aggregate-world c = search needs
 
 fresh-requires : tie.Need-fresh-requires Inv-loop μ-loop
 fresh-requires c κs = search needs
@@ -63,8 +60,7 @@ lines-of-spec =
     Inv-loop
     μ-loop
     zeros-requires
-    slice-aggregate-servers
-    slice-aggregate-memory
+    slice-aggregate-world
     fresh-requires
     loop-holds
     from-requires

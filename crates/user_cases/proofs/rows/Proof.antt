@@ -6,10 +6,13 @@ use Rattle.user_cases.proofs.rows.Statement.{statement}
 use Rattle.user_cases.proofs.rows.Tie as tie
 
 abbrev Inv-loop : tie.InvT-loop
-Inv-loop text users trees places₀ servers₀ at₀ places servers at = 0 ≤ at
+Inv-loop text keys places₀ servers₀ at₀ places servers at = 0 ≤ at
 
 abbrev μ-loop : tie.MeasureT-loop
-μ-loop text users trees places₀ servers₀ at₀ places servers at = length text - at
+μ-loop text keys places₀ servers₀ at₀ places servers at = length text - at
+
+large-buffer-requires : tie.Need-large-buffer-requires Inv-loop μ-loop
+large-buffer-requires c κs = search needs
 
 slice-aggregate-places : tie.Need-slice-aggregate-places Inv-loop μ-loop
 slice-aggregate-places c = search needs
@@ -53,6 +56,7 @@ rows-spec =
     (tie.spec
     Inv-loop
     μ-loop
+    large-buffer-requires
     slice-aggregate-places
     slice-aggregate-servers
     loop-holds

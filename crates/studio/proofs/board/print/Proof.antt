@@ -1,17 +1,16 @@
 -- `print` is safe and ends: it has a turn for each entry.
 use borrow.Author.Needs.{needs}
-use mathlib.Core.Path.{_≡_, _∙_}
+use mathlib.Core.Path.{_≡_}
 use Prim.Native.Nat.{_≤_, _-_}
-use native.Mathlib.Omega.{arith}
 use lib.ListN.{length}
 use Rattle.studio.proofs.board.print.Statement.{statement}
 use Rattle.studio.proofs.board.print.Tie as tie
 
 abbrev Inv-loop : tie.InvT-loop
-Inv-loop g own n memory servers₀ users standing k₀ servers k = (k ≤ n) × (length servers ≡ length servers₀)
+Inv-loop g own n world₀ keys standing k₀ world k = (k ≤ n) × (length world ≡ length world₀)
 
 abbrev μ-loop : tie.MeasureT-loop
-μ-loop g own n memory servers₀ users standing k₀ servers k = n - k
+μ-loop g own n world₀ keys standing k₀ world k = n - k
 
 loop-holds : tie.Need-loop-holds Inv-loop μ-loop
 loop-holds c = search needs
@@ -38,10 +37,10 @@ loop-less : tie.Need-loop-less Inv-loop μ-loop
 loop-less c = search needs
 
 loop-again : tie.Need-loop-again Inv-loop μ-loop
-loop-again c = (omega (arith, c .before .before .before .before .before .loop-test .taken), c .before .before .print-marked .kept .1 .1 .1 .1 .1 .0 ∙ c .before .before .before .before .before .before .loop .inv .1)
+loop-again c = search needs
 
 same-length : tie.Need-same-length Inv-loop μ-loop
-same-length c = c .before .loop .inv .1
+same-length c = search needs
 
 returns : tie.Need-returns Inv-loop μ-loop
 returns c = search needs

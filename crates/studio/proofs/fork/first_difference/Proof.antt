@@ -1,17 +1,16 @@
 -- `first_difference` answers no position past the shorter view. It has a turn for each position.
 use borrow.Author.Needs.{needs}
-use mathlib.Core.Path.{_≡_, _∙_}
+use mathlib.Core.Path.{_≡_}
 use Prim.Native.Nat.{_≤_, _-_}
-use native.Mathlib.Omega.{arith}
 use lib.ListN.{length}
 use Rattle.studio.proofs.fork.first_difference.Statement.{statement}
 use Rattle.studio.proofs.fork.first_difference.Tie as tie
 
 abbrev Inv-loop : tie.InvT-loop
-Inv-loop g a b shorter memory servers₀ users p₀ servers p = (p ≤ shorter) × (length servers ≡ length servers₀)
+Inv-loop g a b shorter world₀ keys p₀ world p = (p ≤ shorter) × (length world ≡ length world₀)
 
 abbrev μ-loop : tie.MeasureT-loop
-μ-loop g a b shorter memory servers₀ users p₀ servers p = shorter - p
+μ-loop g a b shorter world₀ keys p₀ world p = shorter - p
 
 loop-holds : tie.Need-loop-holds Inv-loop μ-loop
 loop-holds c = search needs
@@ -19,23 +18,35 @@ loop-holds c = search needs
 add-p : tie.Need-add-p Inv-loop μ-loop
 add-p c = search needs
 
+read-requires : tie.Need-read-requires Inv-loop μ-loop
+read-requires c κs = search needs
+
+read-requires-2 : tie.Need-read-requires-2 Inv-loop μ-loop
+read-requires-2 c κs = search needs
+
+user-requires : tie.Need-user-requires Inv-loop μ-loop
+user-requires c κs = search needs
+
+user-requires-2 : tie.Need-user-requires-2 Inv-loop μ-loop
+user-requires-2 c κs = search needs
+
 differ-requires : tie.Need-differ-requires Inv-loop μ-loop
 differ-requires c κs = search needs
 
 same-length : tie.Need-same-length Inv-loop μ-loop
-same-length c = c .before .before .before .differ .kept .1 .1 .1 .1 .1 .0 ∙ c .before .before .before .before .before .before .loop .inv .1
+same-length c = search needs
 
 returns : tie.Need-returns Inv-loop μ-loop
-returns c = omega (arith, c .before .before .before .before .before .loop-test .taken)
+returns c = search needs
 
 loop-less : tie.Need-loop-less Inv-loop μ-loop
 loop-less c = search needs
 
 loop-again : tie.Need-loop-again Inv-loop μ-loop
-loop-again c = (omega (arith, c .before .before .before .before .before .loop-test .taken), c .before .before .before .differ .kept .1 .1 .1 .1 .1 .0 ∙ c .before .before .before .before .before .before .loop .inv .1)
+loop-again c = search needs
 
 same-length-2 : tie.Need-same-length-2 Inv-loop μ-loop
-same-length-2 c = c .before .loop .inv .1
+same-length-2 c = search needs
 
 returns-2 : tie.Need-returns-2 Inv-loop μ-loop
 returns-2 c = search needs
@@ -48,6 +59,10 @@ first-difference-spec =
     μ-loop
     loop-holds
     add-p
+    read-requires
+    read-requires-2
+    user-requires
+    user-requires-2
     differ-requires
     same-length
     returns

@@ -1,5 +1,5 @@
 // What a code says, in the words of document 01's table.
-use programs::print;
+use crate::print;
 
 // The sentence of a refusal, and of the server's where the code is 11. Nothing for 0.
 pub fn refusal(code: u8, servers_code: u8) {

@@ -1,4 +1,4 @@
-// A line of the script: a word, one or two numbers, and a text that takes the rest of the line.
+// A line of a studio script: a word, one or two numbers, and a text that takes the rest of the line.
 use lines::Digits;
 use sha256::bytes;
 

@@ -1,0 +1,64 @@
+// A server's place: the head from its first byte on, position, level, author and digest; the store's used length; then the store.
+use lent_bytes::serving;
+use lent_bytes::serving::Served;
+use programs::key;
+use sha256::bytes;
+
+pub const LEVEL: usize = 4;
+
+pub const AUTHOR: usize = 6;
+
+pub const DIGEST: usize = 8;
+
+pub const USED: usize = 40;
+
+pub const STORE: usize = 48;
+
+// The head as `lent_bytes` has it.
+fn head_of(place: &[u8]) -> [u8; 39] {
+    let mut head = [0u8; 39];
+    let rest = bytes::front(bytes::from(place, AUTHOR), 34);
+    bytes::put2(&mut head, 0, bytes::front(place, 5), rest);
+    head
+}
+
+// Lays the head and the used length.
+fn keep(head: &[u8; 39], used: u64, place: &mut [u8]) {
+    bytes::put(place, 0, bytes::front(head, 5));
+    bytes::put(place, AUTHOR, bytes::from(head, 5));
+    bytes::put(place, USED, &bytes::be4((used % 4294967296) as u32));
+}
+
+// One call of a server on its place, whose store goes to the place's end. Where the place has no store nothing is done, and the code is 22.
+pub fn serve(
+    servers: u32,
+    own: u32,
+    users: &[u8],
+    place: &mut [u8],
+    request: &[u8],
+    answer: &mut [u8],
+) -> Served {
+    if place.len() < STORE {
+        return Served {
+            code: 22,
+            answer: 0,
+            used: 0,
+        };
+    }
+    let log = key::LOG;
+    let mut head = head_of(place);
+    let used = bytes::u32_at(place, USED) as u64;
+    let served = serving::serve(
+        servers,
+        own,
+        &log,
+        users,
+        &mut head,
+        &mut place[STORE..],
+        used,
+        request,
+        answer,
+    );
+    keep(&head, served.used, place);
+    served
+}
