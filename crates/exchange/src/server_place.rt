@@ -1,4 +1,5 @@
-// A server's place: the head from its first byte on, position, level, author and digest; the store's used length; then the store.
+// A server's place: the head from its first byte on, position, level, a byte that is 0, author and digest; the store's used length; then
+// the store.
 use lent_bytes::serving;
 use lent_bytes::serving::Served;
 use programs::key;

@@ -48,8 +48,8 @@ pub const REQUEST: usize = 5604;
 
 pub const ENTRY: usize = 8170;
 
-// What a step is made with: N, the own number, the kind (1 starts an Update, 2 a Write, 3 a Read; else an answer is taken in), a number (of
-// a Write the byte that its randomizer repeats, of a Read the position), and how many bytes of the user list, the key tree, the request
+// What a step is made with: N, the own number, the kind (1 starts an Update, 2 a Write, 3 a Read; 0 takes in an answer), a number (of a
+// Write the byte that its randomizer repeats, of a Read the position), and how many bytes of the user list, the key tree, the request
 // buffer and the entry buffer are lent.
 pub struct Settings {
     pub servers: u32,
