@@ -1,11 +1,11 @@
 -- The premises of the honest run can be met: the first Write of user 1 on two servers is valid, and so ends with 0 after five answers.
-use mathlib.Core.Path.{_≡_, refl, ap, sym, _∙_, subst}
+use mathlib.Core.Path.{_≡_, refl, ap, sym, _∙_}
 use mathlib.Core.Bool.{true, false, cond, _&&_}
 use mathlib.Core.List.{List, [], _∷_}
-use Prim.Native.Nat.{ℕ, zero, suc, _+_, _*_, _≤_, _<_}
+use Prim.Native.Nat.{ℕ, zero, suc, _+_, _*_, _≤_}
 use native.Mathlib.Omega.{arith}
 use lib.Dec.{eqb, ltb}
-use lib.ListN.{length, replicate, length-replicate, getD}
+use lib.ListN.{length, replicate, length-replicate}
 use Rattle.sha256.proofs.Cases.{by-bool}
 use Rattle.tree.specs.Level.{leastFrom, reaches, lg, isFull, highestFull}
 use Rattle.tree.specs.Label.{owner}
