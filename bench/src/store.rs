@@ -9,7 +9,9 @@ use crate::server::speed::{self, Place};
 use crate::user;
 
 const GROUPS: [u32; 3] = [2, 4, 16];
-const COUNTS: [usize; 2] = [20_000, 100_000];
+
+/// As many records, or all that the longest log leaves on a server where these are fewer.
+const COUNTS: [usize; 3] = [20_000, 100_000, 1_000_000];
 const SHORTEST_ENTRY: usize = 20;
 
 /// As many positions are written by a user's Writes, to see that a store made here has the records that they leave.
@@ -44,9 +46,9 @@ fn print(key: &Key, servers: u32, own: u32, store: &[u8]) {
     speed::print_scans(key, place, store, headers(store).len(), &format!("server {own} of {servers}"));
 }
 
-/// The records that a server of an honest log stores, in order: position, kind and level.
+/// The records that a server of an honest log stores before the last position, in order: position, kind and level.
 fn records(servers: u32, own: u32) -> impl Iterator<Item = (u32, u8, u8)> {
-    let nodes = (1..).flat_map(|p| [PUT_OPERATION, PUT_NODE, COMMIT].map(|kind| (p, kind)));
+    let nodes = (1..speed::P).flat_map(|p| [PUT_OPERATION, PUT_NODE, COMMIT].map(|kind| (p, kind)));
     nodes.flat_map(move |(p, kind)| owned_levels(kind, p, servers, own).into_iter().map(move |l| (p, kind, l)))
 }
 

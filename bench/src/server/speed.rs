@@ -133,7 +133,7 @@ pub fn print_scans(key: &Key, place: Place, records: &[u8], count: usize, mix: &
         let race = race(call(key, place, kind, records), code);
         let ((best, plain_best), (median, plain_median)) = (race.best(), race.medians());
         println!(
-            "  {count:>6} records, {mix:>25}, {name:>12}: library {:>6.2}, {:>6.2}; plain {:>6.2}, {:>6.2}",
+            "  {count:>7} records, {mix:>25}, {name:>12}: library {:>6.2}, {:>6.2}; plain {:>6.2}, {:>6.2}",
             each(best),
             each(median),
             each(plain_best),
