@@ -121,7 +121,46 @@ fn keep_step(kind: u8, asked: Asked, place: &mut [u8]) {
     }
 }
 
-// The step with everything lent.
+// The start of a call: kind 1 an Update, 2 a Write, 3 a Read.
+fn started(
+    s: Settings,
+    users: &[u8],
+    tree: &[u8],
+    input: &[u8],
+    kept: &[u8; 42],
+    path: &[u8; 672],
+    call: &mut [u8; 82],
+    held: &mut [u8; 1026],
+    request: &mut [u8],
+    entry: &[u8],
+) -> Asked {
+    let log = key::LOG;
+    let n = s.servers;
+    let own = s.own;
+    if s.kind == 1 {
+        return using::update_start(n, own, &log, users, kept, call, request);
+    }
+    if s.kind == 3 {
+        return using::read_start(n, own, &log, users, s.number, kept, call, request, entry);
+    }
+    let randomizer = [(s.number % 256) as u8; 32];
+    using::write_start(
+        n,
+        own,
+        &log,
+        users,
+        tree,
+        input,
+        &randomizer,
+        kept,
+        path,
+        call,
+        held,
+        request,
+    )
+}
+
+// The step with everything lent: a start, or an answer that is taken in.
 fn lent(
     s: Settings,
     keys: &[u8],
@@ -135,39 +174,27 @@ fn lent(
     request: &mut [u8],
     entry: &mut [u8],
 ) -> Asked {
-    let log = key::LOG;
-    let n = s.servers;
-    let own = s.own;
-    let name = (own % 256) as u8;
+    let name = (s.own % 256) as u8;
     let users = bytes::front(keys, s.users as usize);
     let tree = bytes::front(key::tree_of(keys, name), s.tree as usize);
-    if s.kind == 1 {
-        return using::update_start(n, own, &log, users, kept, call, request);
-    }
-    if s.kind == 2 {
-        let randomizer = [(s.number % 256) as u8; 32];
-        return using::write_start(
-            n,
-            own,
-            &log,
+    if 0 < s.kind {
+        return started(
+            s,
             users,
             tree,
             input,
-            &randomizer,
             kept,
             path,
             call,
             held,
             request,
+            entry,
         );
     }
-    if s.kind == 3 {
-        return using::read_start(n, own, &log, users, s.number, kept, call, request, entry);
-    }
     taking::take(
-        n,
-        own,
-        &log,
+        s.servers,
+        s.own,
+        &key::LOG,
         users,
         &[name; 16],
         &[name; 32],

@@ -13,7 +13,7 @@ use Rattle.tree.specs.Setup.{firstCode, userCount, inLog, listed}
 use Rattle.tree.proofs.Cases.{cases-eq, and-true}
 use Rattle.tree.proofs.Messages.{request-header-length, request-begins, request-kind, request-log, request-author, request-position, request-level, request-body}
 use Rattle.server.specs.declared.Head.{Head}
-use Rattle.server.specs.Shape.{nodeFits, bodyFits, requestFits}
+use Rattle.server.specs.Shape.{nodeFits, bodyFits, kindFits, requestFits}
 use Rattle.server.specs.Checks.{headFits, setupChecks, requestChecks, kindChecks, ownsNode, recordKept, pullSource}
 use Rattle.server.specs.Serve.{headAfter, storeAfter, usedAfter, bodyGiven, headerGiven, answerGiven, Left, served}
 use Rattle.server.proofs.Served.{code, Ready, setup-ready, Early, early-ready, served-passed}
@@ -76,7 +76,7 @@ asked-fields c range a want body hk ha hp hl =
 pub early-asked : (c : Setup) → userCount (publicTo c (c .count)) ≡ c .count → (a kind p l s : ℕ) (body q : List ℕ) → Asked c a kind p l body q
     → 1 ≤ a → a ≤ c .count → nodeFits kind p l ≡ true → bodyFits kind (length body) ≡ true → ((kind ≡ 1 → ⊥) → owner (c .servers) p l ≡ s)
     → Early (settingsIn c s) q
-unfolding requestFits listed ownsNode
+unfolding requestFits kindFits listed ownsNode
 early-asked c counted a kind p l s body q f one last node size own =
     let z : length q - 26 ≡ length body = omega (arith, f .long) in
     let owned : ownsNode (c .servers) s q ≡ true =
