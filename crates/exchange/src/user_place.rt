@@ -121,7 +121,7 @@ fn keep_step(kind: u8, asked: Asked, place: &mut [u8]) {
     }
 }
 
-// The start of a call: kind 1 an Update, 2 a Write, 3 a Read.
+// The start of a call: kind 1 an Update, 3 a Read, any other a Write.
 fn started(
     s: Settings,
     users: &[u8],
