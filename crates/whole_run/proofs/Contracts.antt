@@ -10,9 +10,9 @@ use Rattle.tree.specs.Setup.{firstCode, Settings}
 use Rattle.tree.proofs.Cases.{not-both}
 use Rattle.user.specs.declared.call.Kept.{Kept}
 use Rattle.user_write.specs.declared.call.Write.{Write}
-use Rattle.user_update.specs.Update.{UpdateLeft, freshUpdate, updateSetup, updateGoes, updateRefused, updateStarted}
-use Rattle.user_write.specs.Write.{Key, WriteLent, WriteLeft, writeRoom, writeStartChecks, freshWrite, heldEntry, writeAsks, writeWaits, writeRefused, writeStarted}
-use Rattle.user_read.specs.Read.{ReadLeft, readMemory, readChecks, freshRead, readAsks, readRefused, readStarted}
+use Rattle.user_update.specs.Update.{UpdateLeft, freshUpdate, noUpdate, updateSetup, updateGoes, updateRefused, updateStarted}
+use Rattle.user_write.specs.Write.{Key, WriteLent, WriteLeft, writeRoom, writeStartChecks, freshWrite, noWrite, heldEntry, writeAsks, writeWaits, writeRefused, writeStarted}
+use Rattle.user_read.specs.Read.{ReadLeft, readMemory, readChecks, freshRead, noRead, readAsks, readRefused, readStarted}
 use Rattle.user_write.specs.Writing.{keyOf, lentOf}
 use Rattle.user_update.proofs.UpdateRules.{endedLeft, askingLeft, by-goes}
 use Rattle.user_write.proofs.Writes.{body-first}
@@ -32,8 +32,8 @@ pub update-start : (s : Settings) (k : Kept) (hashes buffer : List ℕ) → upda
 unfolding updateStarted updateRefused
 update-start s k hashes buffer =
     by-bool
-    (λ b. cond b (updateGoes s k freshUpdate hashes buffer) (updateRefused (firstCode (updateSetup s k buffer)) [] k freshUpdate hashes buffer)
-    ≡ updateLeftWith hashes (cond b (updateGoes s k freshUpdate [] buffer) (updateRefused (firstCode (updateSetup s k buffer)) [] k freshUpdate [] buffer)))
+    (λ b. cond b (updateGoes s k freshUpdate hashes buffer) (updateRefused (firstCode (updateSetup s k buffer)) [] k noUpdate hashes buffer)
+    ≡ updateLeftWith hashes (cond b (updateGoes s k freshUpdate [] buffer) (updateRefused (firstCode (updateSetup s k buffer)) [] k noUpdate [] buffer)))
     (eqb (firstCode (updateSetup s k buffer)) 0)
     (λ _. goes-on s k hashes buffer) (λ _. refl)
 
@@ -71,9 +71,9 @@ module _ (s : Settings) (k : Kept) (path signature hashes held request entry ran
   write-start =
       by-bool
       (λ b. cond b (cond (k .opened) (writeAsks s k fresh all) (writeWaits k fresh all (updateGoes s k freshUpdate hashes request)))
-      (writeRefused code [] k fresh (lentOf path signature hashes held request))
+      (writeRefused code [] k noWrite (lentOf path signature hashes held request))
       ≡ writeLeftWith signature hashes (cond b (cond (k .opened) (writeAsks s k fresh touched) (writeWaits k fresh touched (updateGoes s k freshUpdate [] request)))
-      (writeRefused code [] k fresh (lentOf path [] [] held request))))
+      (writeRefused code [] k noWrite (lentOf path [] [] held request))))
       (eqb code 0)
       (λ _.
       by-bool
@@ -93,6 +93,6 @@ unfolding readStarted readChecks readAsks readRefused
 read-start s k hashes held request entry i =
     let code : ℕ = firstCode (readChecks s k i (readMemory [] [] request entry)) in
     by-bool
-    (λ b. cond b (readAsks s k (freshRead i) (readMemory hashes held request entry)) (readRefused code [] (freshRead i) (readMemory hashes held request entry))
-    ≡ readLeftWith hashes held (cond b (readAsks s k (freshRead i) (readMemory [] [] request entry)) (readRefused code [] (freshRead i) (readMemory [] [] request entry))))
+    (λ b. cond b (readAsks s k (freshRead i) (readMemory hashes held request entry)) (readRefused code [] (noRead i) (readMemory hashes held request entry))
+    ≡ readLeftWith hashes held (cond b (readAsks s k (freshRead i) (readMemory [] [] request entry)) (readRefused code [] (noRead i) (readMemory [] [] request entry))))
     (eqb code 0) (λ _. refl) (λ _. refl)

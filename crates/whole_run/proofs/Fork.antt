@@ -11,7 +11,7 @@ use Rattle.tree.proofs.Cases.{cases-le}
 use Rattle.tree.proofs.Labels.{every-server-owns-a-node}
 use Rattle.user_read.specs.Read.{textAuthor, textEntry}
 use Rattle.whole_run.specs.World.{Group, settingsOf, hashed, signed, answered, Reading}
-use Rattle.whole_run.specs.Runs.{World, Step, run, Fair}
+use Rattle.whole_run.specs.Runs.{Start, World, Step, run, Fair}
 use Rattle.whole_run.specs.Claim.{NoneCollide, NoneForged, HasRead, Differ, Bounded, ForkBound, ViewIsVersion}
 use Rattle.whole_run.proofs.Histories
 use Rattle.whole_run.proofs.Histories.{held-agree, all-known}
@@ -20,26 +20,26 @@ use Rattle.whole_run.proofs.Steps.{all-safe}
 use Rattle.whole_run.proofs.Heads.{one-digest-at-H}
 use Rattle.whole_run.proofs.Views.{view-is-version}
 
-module _ (g : Group) (named : length (g .log) ≡ 16) (store : List ℕ) (xs : List Step) (fair : Fair g store xs)
-    (free : NoCollision (λ t. List·Memᴰ (hashed t) (run g store xs .log))) (owned : NoneForged (run g store xs)) where
+module _ (g : Group) (named : length (g .log) ≡ 16) (start : Start) (xs : List Step) (fair : Fair g start xs)
+    (free : NoCollision (λ t. List·Memᴰ (hashed t) (run g start xs .log))) (owned : NoneForged (run g start xs)) where
   abbrev w : World
-  w = run g store xs
+  w = run g start xs
 
   abbrev S : List ℕ → Type 0
-  S t = List·Memᴰ (hashed t) (run g store xs .log)
+  S t = List·Memᴰ (hashed t) (run g start xs .log)
 
   abbrev G : ℕ → List ℕ → Type 0
-  G a t = List·Memᴰ (signed a t) (run g store xs .log)
+  G a t = List·Memᴰ (signed a t) (run g start xs .log)
 
   abbrev A : List ℕ → List ℕ → Type 0
-  A q x = List·Memᴰ (answered q x) (run g store xs .log)
+  A q x = List·Memᴰ (answered q x) (run g start xs .log)
 
   abbrev Knows : ℕ → List ℕ → Type 0
   Knows = Histories.Knows (g .servers) (g .follows) (g .log) named S G A free
 
-  safe : Rattle.whole_run.proofs.Steps.Safe g named S G A free (run g store xs)
+  safe : Rattle.whole_run.proofs.Steps.Safe g named S G A free (run g start xs)
   unfolding NoneForged
-  safe = all-safe g named S G A free store xs fair (record { hashes = λ t m. m; signs = λ a t m. m; trusts = owned; answers = λ q x m. m })
+  safe = all-safe g named S G A free start xs fair (record { hashes = λ t m. m; signs = λ a t m. m; trusts = owned; answers = λ q x m. m })
 
   known : Histories.Known (g .servers) (g .follows) (g .log) named S G A free
   known = all-known (g .servers) (g .follows) (g .log) named S G A free (safe .signatures)
@@ -58,12 +58,12 @@ module _ (g : Group) (named : length (g .log) ≡ 16) (store : List ℕ) (xs : L
       let q = h .1 .reserves k z kb in
       let x = p .1 .took l lk o in
       let y = q .1 .took l lk o in
-      let e = one-digest-at-H g named store xs (p .0) (q .0) k l l _ _ (x .0) (y .0) (x .1) (x .2) (y .1) (y .2) in
+      let e = one-digest-at-H g named start xs (p .0) (q .0) k l l _ _ (x .0) (y .0) (x .1) (x .2) (y .1) (y .2) in
       held-agree (g .servers) (g .follows) (g .log) named S G A free (f .0) (h .0) _ _ (f .1) (h .1) k z ka kb e
 
   -- both have read d
   module _ (H-some : 1 ≤ g .follows) (H-one : g .follows ≤ g .servers) (a b d x y : ℕ) (e f : List ℕ)
-      (ra : HasRead (run g store xs) a d x e) (rb : HasRead (run g store xs) b d y f) (differ : Differ x e y f) where
+      (ra : HasRead (run g start xs) a d x e) (rb : HasRead (run g start xs) b d y f) (differ : Differ x e y f) where
     abbrev va : ℕ
     va = w .users a .kept .version
 
@@ -106,7 +106,7 @@ module _ (g : Group) (named : length (g .log) ≡ 16) (store : List ℕ) (xs : L
 
 pub fork-bound : ForkBound
 unfolding ForkBound NoneCollide Bounded ViewIsVersion
-fork-bound g named H-some H-one store xs fair free owned a b d x y e f ra rb differ =
-    let va = view-is-version g named store xs fair a in
-    let vb = view-is-version g named store xs fair b in
-    rw (va, vb) (bounded g named store xs fair free owned H-some H-one a b d x y e f ra rb differ)
+fork-bound g named H-some H-one start xs fair free owned a b d x y e f ra rb differ =
+    let va = view-is-version g named start xs fair a in
+    let vb = view-is-version g named start xs fair b in
+    rw (va, vb) (bounded g named start xs fair free owned H-some H-one a b d x y e f ra rb differ)

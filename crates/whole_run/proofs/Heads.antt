@@ -6,7 +6,7 @@ use mathlib.Core.Logic.{_⊎_, inl, inr}
 use Prim.Native.Nat.{ℕ, _%_, _≤_, _<_}
 use native.Mathlib.Nat.{zero-add, mod-lt}
 use native.Mathlib.Omega.{arith}
-use lib.ListN.{length, take, length-replicate}
+use lib.ListN.{length, take}
 use lib.Seq.{take-all}
 use borrow.Author.Tests.{eq-eqb, ne-eqb, lt-leb, leb-true, eqb-true}
 use Rattle.sha256.specs.Bytes.{eqs}
@@ -27,8 +27,8 @@ use Rattle.server.proofs.Served.{code, given, served-passed, served-refused}
 use Rattle.server.proofs.Theorems.{refusal-keeps-all, head-changes-only-by-reserve, position-never-falls, one-digest-a-position}
 use Rattle.server.proofs.After.{accepted-setup, accepted-code, accepted-fits}
 use Rattle.server.proofs.Sizes.{answer-at-most-2552}
-use Rattle.whole_run.specs.World.{Group, settingsOf, answered, Input, userStep}
-use Rattle.whole_run.specs.Runs.{World, Step, user, server, setup, withUser, withServer, serverEvents, step, run}
+use Rattle.whole_run.specs.World.{Group, settingsOf, answered, Input, userStep, dropped}
+use Rattle.whole_run.specs.Runs.{World, Start, newHead, Step, user, drops, server, setup, withUser, withServer, serverEvents, step, run}
 use Rattle.whole_run.proofs.Quiet.{answers-before}
 
 -- the tenth byte of an answer is its code, whatever the other fields are
@@ -155,6 +155,10 @@ logged-user w a i s k =
     old : (q : List ℕ) → Took (withUser w a (userStep s (w .users a) i)) q → Took w q
     old q y = (y .0, answers-before s (w .users a) i (w .log) q (y .0) (y .1), y .2, y .3)
 
+logged-dropped : (w : World) (a : ℕ) → Logged w → Logged (withUser w a (record { user = dropped (w .users a); events = [] }))
+unfolding withUser
+logged-dropped w a k = record { whole = k .whole; past = k .past; same = k .same }
+
 logged-server : (w : World) (s : Settings) (q buffer : List ℕ) → Logged w → Logged (withServer w q (served s (w .head) (w .store) (w .used) q buffer))
 unfolding withServer
 logged-server w s q buffer k =
@@ -187,17 +191,18 @@ logged-server w s q buffer k =
       | inr m ↦ past-stays s (w .head) (w .store) (w .used) q buffer (requestPosition r) (requestBody r) (k .whole) (k .past r m)
     ]
 
-logged : (g : Group) (store : List ℕ) (xs : List Step) → Logged (run g store xs)
-unfolding run setup step
-logged g store [] =
+logged : (g : Group) (start : Start) (xs : List Step) → Logged (run g start xs)
+unfolding run setup step newHead
+logged g start [] =
     record {
-      whole = length-replicate {A = ℕ} 32 0;
+      whole = start .server .digest-size;
       past = λ q y. absurd (List·Memᴰ·not-nil (y .1));
       same = λ q r y z e. absurd (List·Memᴰ·not-nil (y .1));
     }
-logged g store (user a i ∷ xs) = logged-user (run g store xs) a i (settingsOf g a) (logged g store xs)
-logged g store (server q buffer ∷ xs) =
-    logged-server (run g store xs) (settings (g .servers) (g .follows) (g .log) (g .users)) q buffer (logged g store xs)
+logged g start (user a i ∷ xs) = logged-user (run g start xs) a i (settingsOf g a) (logged g start xs)
+logged g start (drops a ∷ xs) = logged-dropped (run g start xs) a (logged g start xs)
+logged g start (server q buffer ∷ xs) =
+    logged-server (run g start xs) (settings (g .servers) (g .follows) (g .log) (g .users)) q buffer (logged g start xs)
 
 -- what H reads in a Reserve: each number modulo the size of its field
 module _ (log : List ℕ) (named : length log ≡ 16) (a p l : ℕ) (δ : List ℕ) where
@@ -220,11 +225,11 @@ module _ (log : List ℕ) (named : length log ≡ 16) (a p l : ℕ) (δ : List �
       )
 
 -- Two Reserves of one position that H answered with code 0 have the same digest.
-pub one-digest-at-H : (g : Group) → length (g .log) ≡ 16 → (store : List ℕ) (xs : List Step) (a b p l m : ℕ) (δ ε x y : List ℕ)
-    → List·Memᴰ (answered (request 5 (g .log) a p l δ) x) (run g store xs .log) → answerCode x ≡ 0
-    → List·Memᴰ (answered (request 5 (g .log) b p m ε) y) (run g store xs .log) → answerCode y ≡ 0
+pub one-digest-at-H : (g : Group) → length (g .log) ≡ 16 → (start : Start) (xs : List Step) (a b p l m : ℕ) (δ ε x y : List ℕ)
+    → List·Memᴰ (answered (request 5 (g .log) a p l δ) x) (run g start xs .log) → answerCode x ≡ 0
+    → List·Memᴰ (answered (request 5 (g .log) b p m ε) y) (run g start xs .log) → answerCode y ≡ 0
     → δ ≡ ε
-one-digest-at-H g named store xs a b p l m δ ε x y i c j d =
+one-digest-at-H g named start xs a b p l m δ ε x y i c j d =
     let q = reserve-read (g .log) named a p l δ in
     let r = reserve-read (g .log) named b p m ε in
-    sym (q .2) ∙ logged g store xs .same _ _ (x, i, q .0, c) (y, j, r .0, d) (q .1 ∙ sym (r .1)) ∙ r .2
+    sym (q .2) ∙ logged g start xs .same _ _ (x, i, q .0, c) (y, j, r .0, d) (q .1 ∙ sym (r .1)) ∙ r .2

@@ -7,7 +7,7 @@ use Rattle.server.specs.Serve.{Left}
 use Rattle.user.specs.declared.ask.Want.{Want}
 use Rattle.user.specs.declared.call.Step.{Step}
 use Rattle.user_write.specs.Write.{writeWant, writeKind, writeLevel}
-use Rattle.whole_run.specs.World.{Sent, Call, answer, taking, userStep, User}
+use Rattle.whole_run.specs.World.{Sent, Call, answer, taking, userStep, User, unlessRefused}
 use Rattle.whole_run.specs.Honest.{Setup, settingsIn, Network, set, reply, answerBytes, serverLeft, arrives, steps, comesBack, takenStep, stepOf}
 use Rattle.whole_run.proofs.HonestState.{Item, bodyAt, serving, PullRight, putting, serversAfter, PutRight}
 use Rattle.whole_run.proofs.HonestFrames.{by-set, sentFor, reply-is}
@@ -30,7 +30,7 @@ pub record Exchanges (c : Setup) (x : Network) (a : ℕ) (u : User) (z : Step) :
 pub exchange-is : (c : Setup) (x : Network) (a : ℕ) (y : List ℕ) (k : Call) → x .users a .call ≡ k
     → answerBytes (reply c x (x .users a .sent)) ≡ y
     → Exchanges c x a (taking (settingsIn c a) (x .users a) y k .user) (takenStep (settingsIn c a) (x .users a) y k)
-unfolding steps arrives comesBack userStep stepOf
+unfolding steps arrives comesBack userStep stepOf unlessRefused
 exchange-is c x a y k is back =
     record {
       next =

@@ -8,7 +8,7 @@ use lib.ListN.{length, take, drop, length-append, length-drop}
 use lib.Seq.{take-all, take-append-le, drop-at, drop-append-le}
 use borrow.Author.Tests.{eq-eqb, le-leb, lt-leb}
 use Rattle.lms.specs.Types.{LMOTS_SHA256_N32_W4, LMS_SHA256_M32_H10}
-use Rattle.lms.specs.Tree.{T, treeSize}
+use Rattle.lms.specs.Tree.{T, treeBytes, treeSize}
 use Rattle.lms.proofs.Nodes.{node-length, tree-length}
 use Rattle.lms.proofs.RoundTrip.{key-length}
 use Rattle.tree.specs.Setup.{userCount, userKey, listed, groupFits}
@@ -20,9 +20,10 @@ use Rattle.user.specs.Asking.{keptFits}
 use Rattle.whole_run.specs.Honest.{Setup, InRange, keyOf, publicOf, publicTo, settingsIn}
 
 -- the key's tree as key generation leaves it
-pub tree-size : (c : Setup) (a : ℕ) → length (keyOf c a .tree) ≡ 65504
+pub tree-size : (c : Setup) (a : ℕ) → 65504 ≤ length (keyOf c a .tree)
 unfolding keyOf treeSize
-tree-size c a = tree-length LMOTS_SHA256_N32_W4 (LMS_SHA256_M32_H10 .h) (c .id a) (c .seed a)
+tree-size c a =
+    omega (arith, length-append (treeBytes LMOTS_SHA256_N32_W4 (LMS_SHA256_M32_H10 .h) (c .id a) (c .seed a)) (c .beyond a), tree-length LMOTS_SHA256_N32_W4 (LMS_SHA256_M32_H10 .h) (c .id a) (c .seed a))
 
 -- what a user keeps is in range, with no write open
 pub kept-fits-shut : (k : Kept) → k .opened ≡ false → k .version ≤ 1048576 → k .number ≤ 1024 → keptFits k ≡ true

@@ -9,10 +9,10 @@ use Rattle.tree.proofs.Cases.{not-both, cases-eq}
 use Rattle.user.specs.declared.call.Kept.{Kept}
 use Rattle.user_write.specs.declared.call.Write.{Write}
 use Rattle.user.specs.Asking.{keptFits, done}
-use Rattle.user_write.specs.Write.{Key, WriteLeft, commitNumber, writeTaken, WriteLent, openedAt, committed}
-use Rattle.whole_run.specs.World.{User, Lent, writing, startWrite, writeLent, afterWrite, taking, Input, sentBy, returned}
+use Rattle.user_write.specs.Write.{Key, WriteLeft, commitNumber, writeTaken, WriteLent, openedAt, committed, writeAnswers}
+use Rattle.whole_run.specs.World.{User, Lent, writing, startWrite, writeLent, afterWrite, taking, Input, sentBy, returned, sentAfter}
 use Rattle.whole_run.specs.Honest.{Setup, InRange, settingsIn, Network, arrives, takenStep, Run, Written, wrote}
-use Rattle.whole_run.specs.HonestClaim.{writeAnswers, Reaches, Serves}
+use Rattle.whole_run.specs.HonestClaim.{Reaches, Serves}
 use Rattle.whole_run.proofs.HonestState.{Item, ServerOk, RoomLeft, OpenOk, PutRight, serversAfter, digestOf}
 use Rattle.whole_run.proofs.HonestKeys.{tree-size}
 use Rattle.whole_run.proofs.HonestServers.{server-commits}
@@ -49,7 +49,7 @@ pub record PutTaken (c : Setup) (L : ℕ → Item) (w g a left : ℕ) (entry : L
   pub on : Opened c L w g a (suc left) (x .users a) now
   pub ok : OpenOk c L w g a entry (x .users a .kept) (x .users a .path) (x .users a .signature)
   pub in-range : keptFits (x .users a .kept) ≡ true
-  pub whole : length (x .users a .lent .key .tree) ≡ 65504
+  pub whole : 65504 ≤ length (x .users a .lent .key .tree)
   pub total : suc (now .asked) + left ≡ suc (commitNumber (suc w))
   pub swap : Exchanges c x a (afterWrite (x .users a) (x .users a .lent) (takenBy c w a (x .users a) now)) (takenBy c w a (x .users a) now .step)
   pub servers : (s : ℕ) → 1 ≤ s → s ≤ c .servers → ServerOk c L w (max g (suc (now .asked))) s (arrives c x a .servers s)
@@ -93,7 +93,7 @@ module _ (c : Setup) (range : InRange c) (r : Run) (a : ℕ) (m : Lent) (entry r
         on = open-now;
         ok = open-ok;
         in-range = fit-user c range (o .log) (o .w) (o .g) a (begunBy r a i) x one last (o .good) .kept-fit;
-        whole = ap (λ (k : Key). length (k .tree)) (call .key) ∙ tree-size c a;
+        whole = subst (λ (k : Key). 65504 ≤ length (k .tree)) (sym (call .key)) (tree-size c a);
         total = omega (arith, open-now .count);
         swap =
             exchange-is c x a (accepts (c .servers) (suc (o .w)) (now .asked)) (writing now) (call .is)
@@ -141,7 +141,7 @@ module _ (c : Setup) (range : InRange c) (r : Run) (a : ℕ) (m : Lent) (entry r
     arrived-all = omega (arith, committing, o .good .fits)
 
     leaves-done : Leaves c (o .log) (suc (o .w)) 0 a (begunBy r a i a) (leaving ending) (arrives c x a .servers)
-    unfolding afterWrite committed
+    unfolding afterWrite committed sentAfter returned
     leaves-done =
         let before = o .good .users-ok a in
         record {
@@ -174,7 +174,7 @@ module _ (c : Setup) (range : InRange c) (r : Run) (a : ℕ) (m : Lent) (entry r
     holds-then = holds-more (o .log) (o .w) (r .log) written-now (o .holds) (open-ok .author) (open-ok .entry)
 
     reaches : Reaches (r .log ++ (written-now ∷ [])) (leaving ending)
-    unfolding Reaches afterWrite committed
+    unfolding Reaches afterWrite committed sentAfter returned
     reaches = (
       version ∙ holds-then .count,
       refl,
@@ -183,7 +183,7 @@ module _ (c : Setup) (range : InRange c) (r : Run) (a : ℕ) (m : Lent) (entry r
 
     -- what is written is one entry more
     pub write-ends : Ends c r a (startWrite m entry randomizer) (taken .step) (network taken)
-    unfolding wrote returned Serves sentBy done afterWrite
+    unfolding wrote returned Serves sentBy done afterWrite sentAfter
     write-ends =
         subst (λ (l : WriteLeft). Ends c r a i (l .step) (network l)) (sym ends-now)
         (record {

@@ -12,10 +12,9 @@ use Rattle.user.specs.declared.call.Kept.{Kept}
 use Rattle.user_write.specs.declared.call.Write.{Write}
 use Rattle.user.specs.declared.ask.Want.{Want}
 use Rattle.user.specs.Asking.{asks, asking}
-use Rattle.user_write.specs.Write.{Key, WriteLent, WriteLeft, commitNumber, writeWant, withRequest, withSignature, openedAt, heldEntry, commitSignature, writeAsks}
-use Rattle.whole_run.specs.World.{User, Lent, startWrite, writeLent, afterWrite, Input}
+use Rattle.user_write.specs.Write.{Key, WriteLent, WriteLeft, commitNumber, writeWant, withRequest, withSignature, openedAt, heldEntry, commitSignature, writeAsks, writeAnswers}
+use Rattle.whole_run.specs.World.{User, Lent, startWrite, writeLent, afterWrite, Input, returned, sentAfter}
 use Rattle.whole_run.specs.Honest.{Setup, InRange, settingsIn, Network, arrives, Run, keyOf}
-use Rattle.whole_run.specs.HonestClaim.{writeAnswers}
 use Rattle.whole_run.proofs.HonestState.{Item, digestOf, bodyAt, ServerOk, OpenOk}
 use Rattle.whole_run.proofs.HonestLog.{same-digest, items-stay, same-texts}
 use Rattle.whole_run.proofs.HonestFrames.{set-same, sent-for, set-other, request-room}
@@ -105,7 +104,7 @@ module _ (c : Setup) (range : InRange c) (r : Run) (a : ℕ) (m : Lent) (entry r
         omega (arith, call .memory .request)
 
     then-call : WriteCall c M (o .w) g′ a left entry then (arrives c x a .servers)
-    unfolding afterWrite asking heldEntry writeAnswers commitNumber
+    unfolding afterWrite asking heldEntry writeAnswers commitNumber sentAfter returned
     then-call =
         record {
           call = openedAt now (suc j);
@@ -134,7 +133,7 @@ module _ (c : Setup) (range : InRange c) (r : Run) (a : ℕ) (m : Lent) (entry r
         }
 
     leaves : Leaves c M (o .w) g′ a (begunBy r a i a) then (arrives c x a .servers)
-    unfolding afterWrite
+    unfolding afterWrite sentAfter returned
     leaves =
         let before = o .good .users-ok a in
         record {
@@ -161,7 +160,7 @@ module _ (c : Setup) (range : InRange c) (r : Run) (a : ℕ) (m : Lent) (entry r
         }
 
     next-on : GoesOn c r a i left (taken .step) (network taken)
-    unfolding asking CallOk afterWrite
+    unfolding asking CallOk afterWrite sentAfter returned
     next-on =
         subst (λ (l : WriteLeft). GoesOn c r a i left (l .step) (network l)) (sym asks-so)
         (record { code = refl; ended = refl; on-way = goes-on c r a i left x o M g′ then old leaves refl then-call })

@@ -29,7 +29,7 @@ use Rattle.user_update.specs.declared.call.Update.{Update}
 use Rattle.user_write.specs.declared.call.Write.{Write}
 use Rattle.user.specs.Asking.{settingsFit, keptFits, setupChecks, requestRoom}
 use Rattle.user_update.specs.Update.{UpdateLeft, freshUpdate, updateGoes, updateTaken, arrived}
-use Rattle.user_write.specs.Write.{Key, WriteLent, WriteLeft, withHeld, withHashes, withPath, openedAt, entryFits, targetFits, ownLeaf, heldEntry, freshWrite, writeRoom, writeStartChecks, writeStarted, writeAsks, writeWaits, writeRefused, openingChecks, opening, writeOpens, writeUpdates, writeGoes, writeTaken}
+use Rattle.user_write.specs.Write.{Key, WriteLent, WriteLeft, withHeld, withHashes, withPath, openedAt, entryFits, targetFits, ownLeaf, heldEntry, freshWrite, writeRoom, writeStartChecks, writeStarted, writeAsks, writeWaits, writeRefused, openingChecks, opening, writeOpens, writeUpdates, writeGoes, writeTaken, withUpdate}
 use Rattle.user_update.proofs.UpdateRules.{endedLeft}
 use Rattle.whole_run.specs.Honest.{Setup, settingsIn, set}
 use Rattle.whole_run.proofs.Requests.{entry-sizes}
@@ -43,7 +43,7 @@ use Rattle.whole_run.proofs.HonestUpdates.{Arrived}
 -- the start of a Write
 module _ (s : Settings) (k : Kept) (m : WriteLent) (entry randomizer : List ℕ) (key : Key)
     (settled : settingsFit s ≡ true) (in-range : keptFits k ≡ true) (room : 2566 ≤ length (m .request))
-    (whole : length (key .tree) ≡ 65504) (shaped : entryFits entry ≡ true) where
+    (whole : 65504 ≤ length (key .tree)) (shaped : entryFits entry ≡ true) where
   -- 22, 21 and 19 pass; 18 and 17 are left
   pub start-passes : (not (k .opened) || eqs (value (ownLeaf s entry)) (piece (m .path) 0)) ≡ true
       → ((k .opened && k .signed) || ltb (k .number) 1024) ≡ true
@@ -110,8 +110,8 @@ module _ (s : Settings) (k : Kept) (w′ : Write) (m : WriteLent) (a : List ℕ)
   abbrev opens : ℕ → List ℕ → WriteLeft
   opens n text =
       let code = firstCode (openingChecks n text) in
-      let m′ = withHashes m hashes in
-      cond (eqb code 0) (writeAsks s (opening (arrived k c)) (openedAt w′ 0) (withPath m′ (laid n text))) (writeRefused code a k w′ m′)
+      let opened = openedAt (withUpdate w′ c) 0 in
+      cond (eqb code 0) (writeAsks s (opening (arrived k c)) opened (withPath (withHashes m hashes) (laid n text))) (writeRefused code a k w′ m)
 
   may-open : firstCode (openingChecks w entry) ≡ 0
   unfolding openingChecks firstCode
@@ -119,7 +119,8 @@ module _ (s : Settings) (k : Kept) (w′ : Write) (m : WriteLent) (a : List ℕ)
 
   -- the first Reserve goes out, with the path laid
   pub write-opens : writeOpens s k w′ m (endedLeft k c hashes buffer) a
-      ≡ writeAsks s (opening (arrived k c)) (openedAt w′ 0) (withPath (withHashes m hashes) (pathWritten (k .version) w hashes (ownLeaf s entry) (m .path)))
+      ≡ writeAsks s (opening (arrived k c)) (openedAt (withUpdate w′ c) 0)
+      (withPath (withHashes m hashes) (pathWritten (k .version) w hashes (ownLeaf s entry) (m .path)))
   unfolding writeOpens
   write-opens = ap₂ opens version held ∙ rw may-open
 

@@ -62,7 +62,7 @@ module _ (c : Setup) (range : InRange c) (L : ℕ → Item) (w g : ℕ)
     pulled body zero-code gives right =
         let f = fields in
         let early = early-asked c (user-count c range) a kind p l s [] q f one last node (rw (le-leb kind 4 k)) own in
-        let t = pull-changes-nothing (settingsIn c s) (x .head) (x .store) (x .used) q (replicate 2552 0) (rw (f .kind-is) k) in
+        let t = pull-changes-nothing (settingsIn c s) (x .head) (x .store) (x .used) q (c .answers s) (rw (f .kind-is) k) in
         record {
           body = body;
           same = server-is x _ _ _ (t .0) (t .1 .0) (t .1 .1);

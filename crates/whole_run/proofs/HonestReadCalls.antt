@@ -8,7 +8,7 @@ use Rattle.user_read.specs.declared.call.Read.{Read}
 use Rattle.user.specs.declared.ask.Want.{Want}
 use Rattle.user.specs.Asking.{asking, done}
 use Rattle.user_read.specs.Read.{ReadLent, ReadLeft, readCount, readWant, readWith, readNext, readHashes, readHeld, readAsks, readEnds, readTaken}
-use Rattle.whole_run.specs.World.{User, Lent, reading, Reading, startRead, sentBy, readLent, newReads, afterRead, returned, taking}
+use Rattle.whole_run.specs.World.{User, Lent, reading, Reading, startRead, sentBy, readLent, newReads, afterRead, returned, taking, sentAfter}
 use Rattle.whole_run.specs.Honest.{Setup, InRange, settingsIn, Network, arrives, takenStep, Run, wrote}
 use Rattle.whole_run.specs.HonestClaim.{writtenAt, Serves}
 use Rattle.whole_run.proofs.HonestState.{ReadOk, PullRight}
@@ -95,7 +95,7 @@ module _ (c : Setup) (range : InRange c) (r : Run) (a : ℕ) (m : Lent) (i left 
 
   -- a step of the Read changes its memory only
   leaves : (l : ReadLeft) → Leaves c (o .log) (o .w) (o .g) a (b a) (leaving l) (arrives c x a .servers)
-  unfolding afterRead
+  unfolding afterRead sentAfter returned
   leaves l = pull-leaves c r a (startRead m i) left x o kept-servers (leaving l) refl refl refl
 
   hashes-size : length (memory .hashes) ≡ 1248
@@ -113,7 +113,7 @@ module _ (c : Setup) (range : InRange c) (r : Run) (a : ℕ) (m : Lent) (i left 
     going = readAsks (settingsIn c a) (who .kept) later memory
 
     then-call : ReadCall c (o .log) (o .w) a i left (leaving going)
-    unfolding afterRead readAsks asking readNext
+    unfolding afterRead readAsks asking readNext sentAfter returned
     then-call =
         record {
           call = later;
@@ -134,11 +134,11 @@ module _ (c : Setup) (range : InRange c) (r : Run) (a : ℕ) (m : Lent) (i left 
         }
 
     read-on : OnWay c r a (startRead m i) left (network going)
-    unfolding CallOk afterRead readAsks asking newReads returned
+    unfolding CallOk afterRead readAsks asking newReads returned sentAfter
     read-on = goes-on c r a (startRead m i) left x o (o .log) (o .g) (leaving going) (λ j h. refl) (leaves going) refl then-call
 
     read-goes-on : GoesOn c r a (startRead m i) left (taken .step) (network taken)
-    unfolding readAsks asking
+    unfolding readAsks asking sentAfter returned
     read-goes-on =
         subst (λ (l : ReadLeft). GoesOn c r a (startRead m i) left (l .step) (network l)) (sym (right .on few .0))
         (record { code = refl; ended = refl; on-way = read-on })
@@ -153,7 +153,7 @@ module _ (c : Setup) (range : InRange c) (r : Run) (a : ℕ) (m : Lent) (i left 
 
     -- it gives what was written
     gives : leaving ending .reads ≡ record { position = i; author = writtenAt (r .log) (i - 1) .author; entry = writtenAt (r .log) (i - 1) .entry } ∷ r .network .users a .reads
-    unfolding afterRead newReads returned readEnds done readNext
+    unfolding afterRead newReads returned readEnds done readNext sentAfter
     gives =
         let p = right .ends all in
         let h : i - 1 < o .w = let z = fit .low in let y = call .within in let q = call .one in omega arith in
@@ -163,7 +163,7 @@ module _ (c : Setup) (range : InRange c) (r : Run) (a : ℕ) (m : Lent) (i left 
         ∙ ap (λ (rs : List Reading). record { position = i; author = writtenAt (r .log) (i - 1) .author; entry = writtenAt (r .log) (i - 1) .entry } ∷ rs) (o .reads)
 
     read-ends : Ends c r a (startRead m i) (taken .step) (network taken)
-    unfolding wrote Serves sentBy done afterRead readEnds
+    unfolding wrote Serves sentBy done afterRead readEnds sentAfter returned
     read-ends =
         subst (λ (l : ReadLeft). Ends c r a (startRead m i) (l .step) (network l)) (sym (right .ends all .0))
         (record {

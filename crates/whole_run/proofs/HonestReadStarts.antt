@@ -7,7 +7,7 @@ use native.Mathlib.Nat.{zero-add}
 use lib.ListN.{length}
 use Rattle.user.specs.Asking.{asking}
 use Rattle.user_read.specs.Read.{ReadLent, ReadLeft, readCount, readWant, freshRead, readAsks, readStarted}
-use Rattle.whole_run.specs.World.{User, Lent, startRead, readLent, newReads, afterRead, returned, userStep}
+use Rattle.whole_run.specs.World.{User, Lent, startRead, readLent, newReads, afterRead, returned, userStep, sentAfter, unlessRefused}
 use Rattle.whole_run.specs.Honest.{Setup, InRange, settingsIn, steps, stepOf, Run, begins}
 use Rattle.whole_run.specs.HonestClaim.{ValidMemory, ValidInput, ValidCall, answersOf, countOf}
 use Rattle.whole_run.proofs.HonestFrames.{sent-for, request-room}
@@ -58,7 +58,7 @@ module _ (c : Setup) (range : InRange c) (r : Run) (a : ℕ) (m : Lent) (i : ℕ
   counted = sym (read-count i (user .kept .version) (given .one) (given .within))
 
   call : ReadCall c (between .log) (between .w) a i n next
-  unfolding afterRead readAsks asking freshRead readCount
+  unfolding afterRead readAsks asking freshRead readCount sentAfter returned
   call =
       record {
         call = freshRead i;
@@ -80,13 +80,13 @@ module _ (c : Setup) (range : InRange c) (r : Run) (a : ℕ) (m : Lent) (i : ℕ
 
   -- a valid Read starts
   pub read-start : Started c r a (startRead m i) n
-  unfolding steps stepOf userStep CallOk begins readAsks asking afterRead newReads returned readCount
+  unfolding steps stepOf userStep CallOk begins readAsks asking afterRead newReads returned readCount sentAfter unlessRefused
   read-start =
       record {
         some = omega (arith, counted);
         code = ap (λ (l : ReadLeft). l .step .code) starts;
         ended = ap (λ (l : ReadLeft). l .step .ended) starts;
         on-way =
-            subst (λ (l : ReadLeft). OnWay c r a (startRead m i) n (withUser (r .network) a (afterRead user m l) (r .network .servers))) (sym starts)
+            subst (λ (l : ReadLeft). OnWay c r a (startRead m i) n (withUser (r .network) a (unlessRefused (l .step) user (afterRead user m l)) (r .network .servers))) (sym starts)
             (start-on-way c r a (startRead m i) between (valid .alone) next refl refl refl refl (λ _. refl) n call);
       }

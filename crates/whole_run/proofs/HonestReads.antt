@@ -108,11 +108,6 @@ module _ (s : Settings) (k : Kept) (r : Read) (m : ReadLent) (a body : List ℕ)
       rw append-assoc (checks-pass s k (r .position) m _ settings-fit kept-fit some low room entry-room
       ∙ answer-passes _ _ a cs (lt-ltb (r .asked) (readCount (r .position) (k .version)) waits) shape code)
 
-  -- no check up to 11 refuses
-  early-none : firstCode (readEarly s k r m a) ≡ 0
-  unfolding firstCode
-  early-none = rw append-nil at (early-passed [])
-
   abbrev after : ReadLent
   after = readWith m (readHashes r body (m .hashes)) (readHeld r body (m .held)) (m .request)
 
@@ -122,13 +117,13 @@ module _ (s : Settings) (k : Kept) (r : Read) (m : ReadLent) (a body : List ℕ)
   -- where nodes are left the Read asks for the next one
   pub taken-asks : suc (r .asked) < readCount (r .position) (k .version) → readTaken s k r m a ≡ readAsks s k next after
   unfolding readTaken readCollected readNext firstCode
-  taken-asks h = rw (is, early-none, early-passed, lt-leb (readCount (r .position) (k .version)) (suc (r .asked)) h)
+  taken-asks h = rw (is, early-passed, lt-leb (readCount (r .position) (k .version)) (suc (r .asked)) h)
 
   -- where none is left and 23 passes it ends
   pub taken-ends : suc (r .asked) ≡ readCount (r .position) (k .version) → readGives k next (after .hashes) (after .held) ≡ true
       → readTaken s k r m a ≡ readEnds next after
   unfolding readTaken readCollected readNext firstCode
-  taken-ends h g = rw (is, early-none, early-passed, le-leb (readCount (r .position) (k .version)) (suc (r .asked)) (omega arith), g)
+  taken-ends h g = rw (is, early-passed, le-leb (readCount (r .position) (k .version)) (suc (r .asked)) (omega arith), g)
 
 module _ (c : Setup) (L : ℕ → Item) (w g a i : ℕ) (k : Kept) (r : Read) (m : ReadLent) (body : List ℕ) (fit : Fit c L w a k)
     (one : 1 ≤ i) (iv : i ≤ k .version) (ok : ReadOk (k .version) i L r (m .hashes) (m .held)) (size : length (m .hashes) ≡ 1248)

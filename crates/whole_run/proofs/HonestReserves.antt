@@ -159,7 +159,7 @@ module _ (c : Setup) (range : InRange c) (L : ℕ → Item) (w g s : ℕ) (one :
     unfolding serverLeft
     reserve-left l e =
         let f = fields in
-        let t = store-changes-only-by-puts (settingsIn c s) (x .head) (x .store) (x .used) reserve (replicate 2552 0) (rw (f .kind-is) (omega arith)) in
+        let t = store-changes-only-by-puts (settingsIn c s) (x .head) (x .store) (x .used) reserve (c .answers s) (rw (f .kind-is) (omega arith)) in
         let n = digest-size L (suc w) in
         let d : reserved ≡ piece (requestBody reserve) 0 =
         sym (ap (λ (b : List ℕ). piece b 0) (f .body-is) ∙ piece-whole reserved 0 (omega arith) ∙ take-all 32 reserved (omega arith)) in

@@ -10,7 +10,7 @@ use Rattle.sha256.proofs.Cases.{by-bool}
 use Rattle.tree.proofs.Cases.{cases-le, cases-eq}
 use Rattle.user.specs.declared.call.Step.{Step}
 use Rattle.whole_run.specs.World.{Input, startUpdate, startWrite, startRead, answer, returned}
-use Rattle.whole_run.specs.Honest.{Setup, Network, arrives, after, handed, Act, calls, Written, Run, wrote, doAct, runOf}
+use Rattle.whole_run.specs.Honest.{Setup, Network, arrives, after, handed, Act, calls, Written, Run, wrote, doAct, Starts, runOf}
 use Rattle.whole_run.specs.HonestClaim.{ValidCall, countOf, Valid, AllValid, NotRefused, Serves}
 use Rattle.whole_run.proofs.HonestState.{Good}
 use Rattle.whole_run.proofs.HonestCalls.{Holds, begunBy, Between, OnWay, Over, Started, Stepped, Late}
@@ -109,16 +109,16 @@ module _ (c : Setup)
       (λ _. record { log = o .log; w = o .w; g = l .g; good = l .good; holds = subst (Holds (o .log) (o .w)) (sym e) (o .holds) })
       (λ _. record { log = o .log; w = o .w; g = o .g; good = o .good; holds = subst (Holds (o .log) (o .w)) (sym e) (o .holds) }))
 
-  module _ (stores : ℕ → List ℕ) (first : Between c (runOf c stores [])) where
-    all-between : (xs : List Act) → AllValid c stores xs → Between c (runOf c stores xs)
+  module _ (b : Starts) (first : Between c (runOf c b [])) where
+    all-between : (xs : List Act) → AllValid c b xs → Between c (runOf c b xs)
     unfolding AllValid runOf
     all-between [] v = first
-    all-between (x ∷ xs) v = acts (runOf c stores xs) x (all-between xs (v .1)) (v .0)
+    all-between (x ∷ xs) v = acts (runOf c b xs) x (all-between xs (v .1)) (v .0)
 
     -- every valid call after every list of valid calls
-    pub every-call : (xs : List Act) → AllValid c stores xs → (a : ℕ) (i : Input) → ValidCall c (runOf c stores xs) a i
-        → NotRefused c (runOf c stores xs) a i
-        × Serves (runOf c stores xs) a (after c (runOf c stores xs .network) a i (countOf c (runOf c stores xs) a i) .users a) i
+    pub every-call : (xs : List Act) → AllValid c b xs → (a : ℕ) (i : Input) → ValidCall c (runOf c b xs) a i
+        → NotRefused c (runOf c b xs) a i
+        × Serves (runOf c b xs) a (after c (runOf c b xs .network) a i (countOf c (runOf c b xs) a i) .users a) i
     every-call xs v a i valid =
-        let b = all-between xs v in
-        (not-refused (runOf c stores xs) a i b valid, ends (runOf c stores xs) a i b valid .serves)
+        let between = all-between xs v in
+        (not-refused (runOf c b xs) a i between valid, ends (runOf c b xs) a i between valid .serves)

@@ -9,12 +9,13 @@ use lib.ListN.{length, replicate, length-replicate}
 use Rattle.sha256.proofs.Cases.{by-bool}
 use Rattle.tree.specs.Level.{leastFrom, reaches, lg, isFull, highestFull}
 use Rattle.tree.specs.Label.{owner}
-use Rattle.user_write.specs.Write.{entryFits, strikes, targetFits, commitNumber, writeLevel}
+use Rattle.user_write.specs.Write.{entryFits, strikes, targetFits, commitNumber, writeLevel, writeAnswers}
 use Rattle.tree.proofs.Cases.{not-both}
 use Rattle.whole_run.specs.World.{Lent, Input, startWrite}
 use Rattle.whole_run.specs.Runs.{newUser}
-use Rattle.whole_run.specs.Honest.{InRange, keyOf, after, handed, atFirst, Run, runOf}
-use Rattle.whole_run.specs.HonestClaim.{Alone, bodySize, storedTo, NewWrite, ValidInput, ValidCall, updateAnswers, writeAnswers, answersOf, countOf, AllValid, NotRefused, Reaches, Serves, HonestRun}
+use Rattle.whole_run.specs.Honest.{InRange, keyOf, after, handed, atFirst, Run, runOf, Starts}
+use Rattle.user_update.specs.Update.{updateAnswers}
+use Rattle.whole_run.specs.HonestClaim.{Alone, bodySize, storedTo, NewWrite, ValidInput, ValidCall, answersOf, countOf, AllValid, NotRefused, Reaches, Serves, HonestRun}
 use Rattle.whole_run.specs.HonestSample.{small}
 use Rattle.whole_run.proofs.HonestTheorem.{honest-run}
 
@@ -44,11 +45,15 @@ memory =
 abbrev first : Input
 first = startWrite memory entry (replicate 32 0)
 
-abbrev stores : ℕ → List ℕ
-stores s = replicate 8000 0
+abbrev zeros-first : Starts
+zeros-first =
+    record {
+      users = λ a. record { digest = replicate 32 0; path = replicate 672 0; signature = replicate 2508 0; path-size = length-replicate {A = ℕ} 672 0; signature-size = length-replicate {A = ℕ} 2508 0 };
+      servers = λ s. record { author = 0; digest = replicate 32 0; store = replicate 8000 0; digest-size = length-replicate {A = ℕ} 32 0 };
+    }
 
 abbrev start : Run
-start = runOf small stores []
+start = runOf small zeros-first []
 
 range : InRange small
 range =
@@ -97,7 +102,7 @@ pub first-write-ends : (handed small (start .network) 1 first 5 .code ≡ 0) × 
     × (after small (start .network) 1 first 5 .users 1 .kept .version ≡ 1)
 unfolding HonestRun AllValid NotRefused Serves Reaches runOf
 first-write-ends =
-    let h = honest-run small range stores [] tt 1 first valid in
+    let h = honest-run small range zeros-first [] tt 1 first valid in
     let n = h .0 5 (omega (arith, five)) in
     let e = ap (eqb 5) five in
     (n .0, n .1 ∙ e, ap (λ k. after small (start .network) 1 first k .users 1 .kept .version) (sym five) ∙ h .1 .0)

@@ -105,7 +105,7 @@ early-asked c counted a kind p l s body q f one last node size own =
 module _ (c : Setup) (s : ℕ) (x : Server) (q : List ℕ) where
   -- what it leaves
   abbrev pub left : Left
-  left = served (settingsIn c s) (x .head) (x .store) (x .used) q (replicate 2552 0)
+  left = served (settingsIn c s) (x .head) (x .store) (x .used) q (c .answers s)
 
   -- the records that are stored
   abbrev pub held : List (List ℕ)
@@ -118,43 +118,43 @@ module _ (c : Setup) (s : ℕ) (x : Server) (q : List ℕ) where
 
   module _ (ready : Ready (settingsIn c s) (x .head) (x .store) (x .used)) where
     -- 22 and 21 pass
-    setup-zero : firstCode (setupChecks (settingsIn c s) (x .head) (x .store) (x .used) (replicate 2552 0)) ≡ 0
+    setup-zero : firstCode (setupChecks (settingsIn c s) (x .head) (x .store) (x .used) (c .answers s)) ≡ 0
     setup-zero =
-        setup-ready (settingsIn c s) (x .head) (x .store) (x .used) (replicate 2552 0) ready
-        ∙ ap (λ (b : Bool). cond b 0 21) (le-leb 2552 (length (replicate {A = ℕ} 2552 0)) (omega (arith, length-replicate {A = ℕ} 2552 0)))
+        setup-ready (settingsIn c s) (x .head) (x .store) (x .used) (c .answers s) ready
+        ∙ ap (λ (b : Bool). cond b 0 21) (le-leb 2552 (length (c .answers s)) (c .roomy s))
 
     module _ (early : Early (settingsIn c s) q) (zero-code : kindCode ≡ 0) where
       -- all other checks pass
-      request-zero : code (settingsIn c s) (x .head) (x .store) (x .used) q (replicate 2552 0) ≡ 0
+      request-zero : code (settingsIn c s) (x .head) (x .store) (x .used) q (c .answers s) ≡ 0
       unfolding requestChecks
       request-zero =
           early-ready (settingsIn c s) (x .head) (recordKept held q) (pullSource held q) (length (x .store) - x .used) q early ∙ zero-code
 
       -- it is accepted,
       pub accepted : left .out .code ≡ 0
-      accepted = rw (served-passed (settingsIn c s) (x .head) (x .store) (x .used) q (replicate 2552 0) setup-zero) request-zero
+      accepted = rw (served-passed (settingsIn c s) (x .head) (x .store) (x .used) q (c .answers s) setup-zero) request-zero
 
       -- with the effects of code 0,
       pub left-head : left .out .head ≡ headAfter (x .head) q 0
-      left-head = rw (served-passed (settingsIn c s) (x .head) (x .store) (x .used) q (replicate 2552 0) setup-zero, request-zero)
+      left-head = rw (served-passed (settingsIn c s) (x .head) (x .store) (x .used) q (c .answers s) setup-zero, request-zero)
 
       -- the store
       pub left-store : left .store ≡ storeAfter (recordKept held q) (x .store) (x .used) q 0
-      left-store = rw (served-passed (settingsIn c s) (x .head) (x .store) (x .used) q (replicate 2552 0) setup-zero, request-zero)
+      left-store = rw (served-passed (settingsIn c s) (x .head) (x .store) (x .used) q (c .answers s) setup-zero, request-zero)
 
       -- and its used length
       pub left-used : left .out .used ≡ usedAfter (recordKept held q) (x .used) q 0
-      left-used = rw (served-passed (settingsIn c s) (x .head) (x .store) (x .used) q (replicate 2552 0) setup-zero, request-zero)
+      left-used = rw (served-passed (settingsIn c s) (x .head) (x .store) (x .used) q (c .answers s) setup-zero, request-zero)
 
       -- leaves the server ready,
       pub ready-left : Ready (settingsIn c s) (serverLeft left .head) (serverLeft left .store) (serverLeft left .used)
       unfolding serverLeft
-      ready-left = ready-after (settingsIn c s) (x .head) (x .store) (x .used) q (replicate 2552 0) setup-zero
+      ready-left = ready-after (settingsIn c s) (x .head) (x .store) (x .used) q (c .answers s) setup-zero
 
       -- and answered with its fields and the kind's body
       pub answered-with : (a kind p l : ℕ) (body : List ℕ) → Asked c a kind p l body q
           → answerBytes left ≡ answer kind s p l 0 (bodyGiven (x .head) (pullSource held q) q)
       unfolding answerBytes answerGiven headerGiven answer
       answered-with a kind p l body f =
-          all-given (settingsIn c s) (x .head) (x .store) (x .used) q (replicate 2552 0) setup-zero
+          all-given (settingsIn c s) (x .head) (x .store) (x .used) q (c .answers s) setup-zero
           ∙ rw (request-zero, le-leb 25 (length q) (omega (arith, f .long)), f .kind-is, f .position-is, f .level-is)

@@ -14,6 +14,7 @@ use Rattle.server.specs.Store.{records, recordsIn, sizes, whole, first}
 use Rattle.server.specs.Checks.{settingsFit, headFits}
 use Rattle.server.proofs.Asked.{names-node, in-log}
 use Rattle.user_write.specs.Write.{commitNumber}
+use Rattle.whole_run.specs.Runs.{NewServer, newHead}
 use Rattle.whole_run.specs.Honest.{Setup, publicTo, Server}
 use Rattle.whole_run.proofs.HonestState.{Item, texts, digestOf, bodyOf, recordOf, has, reached, HeadAt, ServerOk}
 use Rattle.whole_run.proofs.HonestLog.{same-hash, same-digest}
@@ -111,10 +112,10 @@ server-commits c L w s x ok =
     }
 
 -- At first: head (0, 0), and nothing stored.
-pub server-at-first : (c : Setup) (L : ℕ → Item) (s : ℕ) (store : List ℕ) → 1 ≤ s → settingsFit (c .servers) s (publicTo c (c .count)) ≡ true
-    → ServerOk c L 0 0 s (record { head = record { position = 0; level = 0; author = 0; digest = replicate 32 0 }; store = store; used = 0 })
-unfolding headFits whole records recordsIn sizes first
-server-at-first c L s store low fits =
+pub server-at-first : (c : Setup) (L : ℕ → Item) (s : ℕ) (b : NewServer) → 1 ≤ s → settingsFit (c .servers) s (publicTo c (c .count)) ≡ true
+    → ServerOk c L 0 0 s (record { head = newHead b; store = b .store; used = 0 })
+unfolding headFits whole records recordsIn sizes first newHead
+server-at-first c L s b low fits =
     record {
       ready = record { settings = fits; head = refl; within = omega arith; records = refl };
       head = rw (reached-zero 0, nodes-zero, label-zero 0) (at-first (c .servers) s low);

@@ -1,7 +1,7 @@
 -- The signature that an honest write makes for its Commit is one that everybody accepts, and the write that has it is as it should be.
 use mathlib.Core.Path.{_≡_, refl, ap, ap₂, sym, _∙_}
 use mathlib.Core.Bool.{true, false}
-use mathlib.Core.List.{List, [], append-nil}
+use mathlib.Core.List.{List, _++_}
 use Prim.Native.Nat.{ℕ, suc, _<_}
 use native.Mathlib.Omega.{arith}
 use lib.ListN.{length}
@@ -46,20 +46,18 @@ module _ (c : Setup) (r : InRange c) (a number : ℕ) (randomizer text : List �
   abbrev made : List ℕ
   made =
       signature LMOTS_SHA256_N32_W4 LMS_SHA256_M32_H10 (c .id a) (c .seed a) number randomizer text
-      (treeBytes LMOTS_SHA256_N32_W4 (LMS_SHA256_M32_H10 .h) (c .id a) (c .seed a))
+      (treeBytes LMOTS_SHA256_N32_W4 (LMS_SHA256_M32_H10 .h) (c .id a) (c .seed a) ++ c .beyond a)
 
   made-size : length made ≡ 2508
   unfolding SignatureLength signatureSize keyOf treeSize
   made-size =
       signature-length LMOTS_SHA256_N32_W4 LMS_SHA256_M32_H10 (c .id a) (c .seed a) randomizer text
-      (treeBytes LMOTS_SHA256_N32_W4 (LMS_SHA256_M32_H10 .h) (c .id a) (c .seed a)) number random spare (omega (arith, tree-size c a))
+      (treeBytes LMOTS_SHA256_N32_W4 (LMS_SHA256_M32_H10 .h) (c .id a) (c .seed a) ++ c .beyond a) number random spare (omega (arith, tree-size c a))
 
   made-valid : isValid (checkOf LMOTS_SHA256_N32_W4 LMS_SHA256_M32_H10 (publicOf c a) text made) ≡ true
   unfolding RoundTrip publicOf
   made-valid =
-      let nodes : List ℕ = treeBytes LMOTS_SHA256_N32_W4 (LMS_SHA256_M32_H10 .h) (c .id a) (c .seed a) in
-      let e = round-trip LMOTS_SHA256_N32_W4 LMS_SHA256_M32_H10 set-fits (c .id a) (c .seed a) randomizer text [] number (r .identified a) random spare in
-      ap isValid (rw (append-nil nodes) at e)
+      ap isValid (round-trip LMOTS_SHA256_N32_W4 LMS_SHA256_M32_H10 set-fits (c .id a) (c .seed a) randomizer text (c .beyond a) number (r .identified a) random spare)
 
 -- the open write of user a, not signed yet, signs
 module _ (c : Setup) (r : InRange c) (L : ℕ → Item) (w g a : ℕ) (begun : List ℕ) (k : Kept) (path before : List ℕ)

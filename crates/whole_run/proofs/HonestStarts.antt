@@ -9,16 +9,16 @@ use Rattle.sha256.proofs.Cases.{by-bool}
 use Rattle.tree.proofs.Cases.{not-both}
 use Rattle.user.specs.declared.call.Kept.{Kept}
 use Rattle.user.specs.Asking.{keptFits, asking}
-use Rattle.user_update.specs.Update.{UpdateLeft, freshUpdate, updateGoes, updateStarted, updateWant}
-use Rattle.user_update.proofs.UpdateRules.{askingLeft, by-goes}
-use Rattle.whole_run.specs.World.{User, Lent, Input, startUpdate, afterUpdate, userStep}
+use Rattle.user_update.specs.Update.{UpdateLeft, freshUpdate, updateGoes, updateStarted, updateWant, updateAnswers}
+use Rattle.user_update.proofs.UpdateRules.{askingLeft, by-goes, fresh-waits}
+use Rattle.whole_run.specs.World.{User, Lent, Input, startUpdate, afterUpdate, userStep, returned, sentAfter, unlessRefused}
 use Rattle.whole_run.specs.Honest.{Setup, InRange, settingsIn, Network, steps, stepOf, Run, begins}
-use Rattle.whole_run.specs.HonestClaim.{Alone, ValidMemory, ValidInput, ValidCall, updateAnswers, answersOf, countOf}
+use Rattle.whole_run.specs.HonestClaim.{Alone, ValidMemory, ValidInput, ValidCall, answersOf, countOf}
 use Rattle.whole_run.proofs.HonestState.{Item, Good}
 use Rattle.whole_run.proofs.HonestFrames.{set-same, sent-for, request-room}
 use Rattle.whole_run.proofs.HonestKeys.{user-count, user-settings, kept-fits-shut, kept-fits-open}
 use Rattle.whole_run.proofs.HonestAnswers.{Fit}
-use Rattle.whole_run.proofs.HonestUpdates.{fresh-update, fresh-waits}
+use Rattle.whole_run.proofs.HonestUpdates.{fresh-update}
 use Rattle.whole_run.proofs.HonestUpdateSteps.{update-starts}
 use Rattle.whole_run.proofs.HonestMoves.{withUser, none-open, leaves-same}
 use Rattle.whole_run.proofs.HonestCalls.{Updates, UpdateCall, CallOk, begunBy, Between, OnWay, Started}
@@ -94,7 +94,7 @@ module _ (c : Setup) (range : InRange c) (r : Run) (a : ℕ) (m : Lent) (between
       ∙ first-status c range a (user .kept) (m .hashes) (m .request)
 
   updates : Updates c (between .log) (between .w) (between .g) a begun-user freshUpdate
-  unfolding afterUpdate
+  unfolding afterUpdate sentAfter returned asking
   updates =
       record {
         none-open = none-open c (between .log) (between .w) (between .g) a (r .begun) (r .network) (between .good) (valid .alone) (input .1);
@@ -105,11 +105,11 @@ module _ (c : Setup) (range : InRange c) (r : Run) (a : ℕ) (m : Lent) (between
       }
 
   memory : ValidMemory (begun-user .lent)
-  unfolding afterUpdate
+  unfolding afterUpdate sentAfter returned
   memory = record { hashes = input .0 .hashes; held = input .0 .held; request = request-room (m .request) _ (input .0 .request) }
 
   call : UpdateCall c (between .log) (between .w) (between .g) a (countOf c r a (startUpdate m)) begun-user
-  unfolding afterUpdate answersOf freshUpdate asking
+  unfolding afterUpdate answersOf freshUpdate asking sentAfter returned
   call =
       record {
         call = freshUpdate;
@@ -121,7 +121,7 @@ module _ (c : Setup) (range : InRange c) (r : Run) (a : ℕ) (m : Lent) (between
 
   -- a valid Update starts
   pub update-start : Started c r a (startUpdate m) (countOf c r a (startUpdate m))
-  unfolding steps stepOf userStep CallOk begins answersOf updateAnswers asking afterUpdate
+  unfolding steps stepOf userStep CallOk begins answersOf updateAnswers asking afterUpdate sentAfter returned unlessRefused
   update-start =
       record {
         some = omega (arith, range .two);
@@ -130,7 +130,7 @@ module _ (c : Setup) (range : InRange c) (r : Run) (a : ℕ) (m : Lent) (between
         on-way =
             subst
             (λ (l : UpdateLeft).
-            OnWay c r a (startUpdate m) (countOf c r a (startUpdate m)) (withUser (r .network) a (afterUpdate user m l) (r .network .servers)))
+            OnWay c r a (startUpdate m) (countOf c r a (startUpdate m)) (withUser (r .network) a (unlessRefused (l .step) user (afterUpdate user m l)) (r .network .servers)))
             (sym starts)
             (start-on-way c r a (startUpdate m) between (valid .alone) begun-user refl refl refl refl (λ _. refl) (countOf c r a (startUpdate m)) call);
       }

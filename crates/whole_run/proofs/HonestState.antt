@@ -194,7 +194,7 @@ pub record ReadOk (v i : ℕ) (L : ℕ → Item) (r : Read) (hashes held : List 
 -- what server s, in state x, makes of a request of user a
 abbrev pub serving : Setup → ℕ → ℕ → Server → Want → List ℕ → Left
 serving c a s x want body =
-    served (settingsIn c s) (x .head) (x .store) (x .used) (asks (settingsIn c a) want body) (replicate 2552 0)
+    served (settingsIn c s) (x .head) (x .store) (x .used) (asks (settingsIn c a) want body) (c .answers s)
 
 -- a pull is answered rightly, and changes nothing
 pub record PullRight (c : Setup) (L : ℕ → Item) (w g a : ℕ) (x : Server) (want : Want) : Type 0 where

@@ -242,7 +242,7 @@ module _ (c : Setup) (range : InRange c) (L : ℕ → Item) (w g s : ℕ) (one :
     first-now : (of p i : ℕ) → first of p i (recordsOf (settingsIn c s) (left c s x request .store) (left c s x request .out .used))
         ≡ cond (isFor of p i asked) asked (first of p i (held c s x request))
     first-now of p i =
-        rw record-asked at (first-after-put (settingsIn c s) (x .head) (x .store) (x .used) request (replicate 2552 0)
+        rw record-asked at (first-after-put (settingsIn c s) (x .head) (x .store) (x .used) request (c .answers s)
         (accepted c s x request (ok .ready) early next-zero) (rw (fields .kind-is) put) of p i)
 
     -- the record asked for is for its own kind and node

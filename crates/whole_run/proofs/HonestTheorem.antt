@@ -4,13 +4,12 @@ use mathlib.Core.Bool.{false}
 use mathlib.Core.List.{List, []}
 use Prim.Native.Nat.{ℕ, suc}
 use native.Mathlib.Omega.{arith}
-use lib.ListN.{length-replicate}
 use Rattle.sha256.proofs.Cases.{by-bool}
 use Rattle.tree.proofs.Cases.{not-both}
 use Rattle.user.specs.declared.call.Step.{Step}
 use Rattle.whole_run.specs.World.{Input, startUpdate, startWrite, startRead, answer}
-use Rattle.whole_run.specs.Runs.{newUser}
-use Rattle.whole_run.specs.Honest.{Setup, InRange, Network, reply, serverLeft, arrives, atFirst, Run, runOf}
+use Rattle.whole_run.specs.Runs.{NewUser, newUser, newHead}
+use Rattle.whole_run.specs.Honest.{Setup, InRange, Network, reply, serverLeft, arrives, atFirst, Run, Starts, runOf}
 use Rattle.whole_run.specs.HonestClaim.{ValidInput, ValidCall, countOf, HonestRun}
 use Rattle.whole_run.proofs.HonestState.{Item, UserOk, Good}
 use Rattle.whole_run.proofs.HonestFrames.{set-other}
@@ -32,29 +31,29 @@ use Rattle.whole_run.proofs.HonestRun.{every-call}
 none : ℕ → Item
 none i = record { author = 0; entry = []; signature = [] }
 
-first-user : (c : Setup) (a : ℕ) → UserOk c none 0 0 a [] newUser
+first-user : (c : Setup) (a : ℕ) (b : NewUser) → UserOk c none 0 0 a [] (newUser b)
 unfolding newUser
-first-user c a =
+first-user c a b =
     record {
       low = omega arith;
       number = omega arith;
       digest-ok = λ z. absurd (omega arith);
-      path-size = length-replicate {A = ℕ} 672 0;
-      signature-size = length-replicate {A = ℕ} 2508 0;
+      path-size = b .path-size;
+      signature-size = b .signature-size;
       open-ok = λ t. not-both false t refl;
     }
 
-first-between : (c : Setup) → InRange c → (stores : ℕ → List ℕ) → Between c (runOf c stores [])
-unfolding runOf atFirst newUser
-first-between c range stores =
+first-between : (c : Setup) → InRange c → (b : Starts) → Between c (runOf c b [])
+unfolding runOf atFirst newUser newHead
+first-between c range b =
     record {
       log = none;
       w = 0;
       g = 0;
       good =
           record {
-            servers-ok = λ s low high. server-at-first c none s (stores s) low (server-settings c range s low high);
-            users-ok = λ a. first-user c a;
+            servers-ok = λ s low high. server-at-first c none s (b .servers s) low (server-settings c range s low high);
+            users-ok = λ a. first-user c a (b .users a);
             room-ok = λ a t. not-both false t refl;
             free = λ _. refl;
             fits = omega arith;
@@ -106,5 +105,5 @@ module _ (c : Setup) (range : InRange c) where
 -- No valid call is refused, each ends at its count of answers, and with what it is for.
 pub honest-run : HonestRun
 unfolding HonestRun
-honest-run c range stores xs valid a i call =
-    every-call c (start c range) (step c range) (late c range) (λ r a i z x o. late-over c r a i z x o) stores (first-between c range stores) xs valid a i call
+honest-run c range b xs valid a i call =
+    every-call c (start c range) (step c range) (late c range) (λ r a i z x o. late-over c r a i z x o) b (first-between c range b) xs valid a i call

@@ -10,12 +10,12 @@ use Rattle.tree.proofs.Cases.{cases-eq, not-both}
 use Rattle.tree.proofs.Labels.{owner-range}
 use Rattle.user_update.specs.declared.call.Update.{Update}
 use Rattle.user.specs.declared.ask.Want.{Want}
-use Rattle.user_update.specs.Update.{updateEnded, updateWant, updateNext, updateHashes, updateGoes, updateTaken}
+use Rattle.user_update.specs.Update.{updateEnded, updateWant, updateNext, updateHashes, updateGoes, updateTaken, updateAnswers}
 use Rattle.user.specs.declared.call.Kept.{Kept}
 use Rattle.user_update.proofs.UpdateRules.{next-asked, endedLeft, askingLeft, by-goes}
 use Rattle.whole_run.specs.World.{Input}
 use Rattle.whole_run.specs.Honest.{Setup, InRange, settingsIn, Network, reply, answerBytes, arrives, Run}
-use Rattle.whole_run.specs.HonestClaim.{ValidMemory, updateAnswers}
+use Rattle.whole_run.specs.HonestClaim.{ValidMemory}
 use Rattle.whole_run.proofs.HonestState.{Item, Good, RightBody, CanAsk, UpdateOk, PullRight}
 use Rattle.whole_run.proofs.HonestPulls.{pull-right}
 use Rattle.whole_run.proofs.HonestAnswers.{Fit, answerTo}

@@ -7,11 +7,11 @@ use native.Mathlib.Omega.{arith}
 use Rattle.tree.proofs.Cases.{not-both}
 use Rattle.user_update.specs.declared.call.Update.{Update}
 use Rattle.user.specs.Asking.{asking, done}
-use Rattle.user_update.specs.Update.{UpdateLeft, updateWant, updateTaken, arrived}
+use Rattle.user_update.specs.Update.{UpdateLeft, updateWant, updateTaken, arrived, updateAnswers}
 use Rattle.user_update.proofs.UpdateRules.{endedLeft, askingLeft}
-use Rattle.whole_run.specs.World.{User, Lent, updating, startUpdate, sentBy, afterUpdate, taking}
+use Rattle.whole_run.specs.World.{User, Lent, updating, startUpdate, sentBy, afterUpdate, taking, returned, sentAfter}
 use Rattle.whole_run.specs.Honest.{Setup, InRange, settingsIn, Network, arrives, takenStep, Run, wrote}
-use Rattle.whole_run.specs.HonestClaim.{updateAnswers, Reaches, Serves}
+use Rattle.whole_run.specs.HonestClaim.{Reaches, Serves}
 use Rattle.whole_run.proofs.HonestState.{digestOf, ServerOk}
 use Rattle.whole_run.proofs.HonestFrames.{sent-for, request-room}
 use Rattle.whole_run.proofs.HonestUpdates.{Arrived}
@@ -70,7 +70,7 @@ module _ (c : Setup) (range : InRange c) (r : Run) (a : ℕ) (m : Lent) (left : 
     going = askingLeft (settingsIn c a) (who .kept) next over (who .lent .request)
 
     then-call : UpdateCall c (o .log) (o .w) (o .g) a left (leaving going)
-    unfolding afterUpdate asking
+    unfolding afterUpdate asking sentAfter returned
     then-call =
         record {
           call = next;
@@ -93,13 +93,13 @@ module _ (c : Setup) (range : InRange c) (r : Run) (a : ℕ) (m : Lent) (left : 
         }
 
     update-on : OnWay c r a (startUpdate m) left (network going)
-    unfolding afterUpdate CallOk
+    unfolding afterUpdate CallOk sentAfter returned
     update-on =
         goes-on c r a (startUpdate m) left x o (o .log) (o .g) (leaving going) (λ j h. refl)
         (pull-leaves c r a (startUpdate m) left x o (answer-now .keeps) (leaving going) refl refl refl) refl then-call
 
     update-goes-on : GoesOn c r a (startUpdate m) left (taken .step) (network taken)
-    unfolding asking
+    unfolding asking sentAfter returned
     update-goes-on =
         subst (λ (l : UpdateLeft). GoesOn c r a (startUpdate m) left (l .step) (network l)) (sym (answer-now .asks-next few))
         (record { code = refl; ended = refl; on-way = update-on })
@@ -119,7 +119,7 @@ module _ (c : Setup) (range : InRange c) (r : Run) (a : ℕ) (m : Lent) (left : 
     shut-then = there .opened ∙ call .updates .shut
 
     leaves : Leaves c (o .log) (o .w) (o .g) a (begunBy r a (startUpdate m) a) (leaving ending) (arrives c x a .servers)
-    unfolding afterUpdate
+    unfolding afterUpdate sentAfter returned
     leaves =
         let k = arrived (who .kept) next in
         let ok = o .good .users-ok a in
@@ -142,7 +142,7 @@ module _ (c : Setup) (range : InRange c) (r : Run) (a : ℕ) (m : Lent) (left : 
         }
 
     reaches : Reaches (r .log) (leaving ending)
-    unfolding Reaches afterUpdate
+    unfolding Reaches afterUpdate sentAfter returned
     reaches = (
       there .version ∙ o .holds .count,
       shut-then,
@@ -152,7 +152,7 @@ module _ (c : Setup) (range : InRange c) (r : Run) (a : ℕ) (m : Lent) (left : 
     )
 
     update-ends-so : Ends c r a (startUpdate m) (taken .step) (network taken)
-    unfolding wrote Serves afterUpdate sentBy done
+    unfolding wrote Serves afterUpdate sentBy done sentAfter returned
     update-ends-so =
         subst (λ (l : UpdateLeft). Ends c r a (startUpdate m) (l .step) (network l)) (sym (answer-now .ends-now all))
         (record {

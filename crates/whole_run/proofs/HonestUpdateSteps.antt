@@ -19,7 +19,7 @@ use Rattle.tree.proofs.Groups.{Group}
 use Rattle.user.specs.declared.call.Kept.{Kept}
 use Rattle.user_update.specs.declared.call.Update.{Update}
 use Rattle.user.specs.Asking.{settingsFit, keptFits, setupChecks, requestRoom, isAnswer, ofNode, ofStatus}
-use Rattle.user_update.specs.Update.{updateEnded, updateWant, updateNext, updateHashes, updateChecks, statusTaken, updateGoes, freshUpdate, updateStarted, updateSetup, updateEarly, updateCollected, updateTaken}
+use Rattle.user_update.specs.Update.{updateEnded, updateWant, updateNext, updateHashes, updateChecks, statusTaken, updateGoes, freshUpdate, updateStarted, updateSetup, updateEarly, updateTaken}
 use Rattle.user_update.proofs.UpdateRules.{next-asked, later-position}
 use Rattle.user_update.proofs.Updates.{want-status, want-record, want-node, next-status, no-hash, hash-kept, heads-later, heads-last, contents-status, contents-record, contents-node, contents-last}
 use Rattle.whole_run.specs.Honest.{Setup, publicTo, settingsIn}
@@ -67,16 +67,11 @@ module _ (s : Settings) (k : Kept) (u : Update) (hashes buffer a body : List ℕ
       let going : not (updateEnded (s .servers) (k .version) u) ≡ true = rw waits in
       rw append-assoc (setup-passes s k buffer _ settings-fit kept-fit shut room ∙ answer-passes _ _ a cs going shape code)
 
-  -- no check up to 11 refuses
-  early-none : firstCode (updateEarly s k u buffer a) ≡ 0
-  unfolding firstCode
-  early-none = rw append-nil at (early-passed [])
-
   -- where the contents pass too, the Update goes on
   pub taken-passed : firstCode (updateChecks s k u (updateNext (s .servers) u body) (updateHashes (s .servers) u body hashes) body) ≡ 0
       → updateTaken s k u hashes buffer a ≡ updateGoes s k (updateNext (s .servers) u body) (updateHashes (s .servers) u body hashes) buffer
-  unfolding updateTaken updateCollected
-  taken-passed e = rw (is, early-none, early-passed, e)
+  unfolding updateTaken
+  taken-passed e = rw (is, early-passed, e)
 
 module _ (c : Setup) (L : ℕ → Item) (w a : ℕ) (k : Kept) (u : Update) (hashes body : List ℕ) (fit : Fit c L w a k)
     (ok : UpdateOk (c .servers) (k .version) w L u hashes) (size : length hashes ≡ 1248) (waits : updateEnded (c .servers) (k .version) u ≡ false)

@@ -1,31 +1,29 @@
 -- An Update in an honest run: when it ends, what it asks for, and what it has at its end.
 use mathlib.Core.Path.{_≡_, refl, sym, ap, _∙_, subst}
-use mathlib.Core.Bool.{Bool, true, false, _&&_, _||_, and-false}
+use mathlib.Core.Bool.{true, false}
 use mathlib.Core.List.{List}
 use Prim.Native.Nat.{ℕ, _+_, _-_, _≤_, _<_}
 use native.Mathlib.Omega.{arith}
 use lib.Count.{ones}
 use lib.Dec.{eqb, leb}
 use lib.ListN.{length, getD}
-use borrow.Author.Tests.{eq-eqb, ne-eqb, le-leb, lt-leb, leb-false, leb-true, eqb-true}
+use borrow.Author.Tests.{eq-eqb, ne-eqb, le-leb, lt-leb, leb-false, leb-true}
 use Rattle.tree.specs.Level.{lg}
 use Rattle.tree.specs.Label.{nodesTo}
 use Rattle.tree.specs.Tree.{leaves}
 use Rattle.tree.specs.Cover.{at, cover}
-use Rattle.tree.proofs.Cases.{positive, and-true, cases-le, cases-eq, not-both}
+use Rattle.tree.proofs.Cases.{positive, cases-le, cases-eq}
 use Rattle.tree.proofs.Counts.{own-length}
 use Rattle.tree.proofs.Honest.{TrueAnswers}
 use Rattle.tree.proofs.Tiles.{ones-of-zero}
 use Rattle.user.specs.declared.call.Kept.{Kept}
 use Rattle.user_update.specs.declared.call.Update.{Update}
 use Rattle.user.specs.Asking.{ofNode, ofStatus}
-use Rattle.user_update.specs.Update.{freshUpdate, updateEnded, updateWant, arrived}
-use Rattle.user.proofs.Passed.{or-cases}
-use Rattle.user_update.proofs.UpdateRules.{counted}
+use Rattle.user_update.specs.Update.{freshUpdate, updateEnded, updateWant, arrived, updateAnswers}
+use Rattle.user_update.proofs.UpdateRules.{counted, answers-none, answers-most, answers-least}
 use Rattle.user_update.proofs.Updates.{want-status, want-record, want-node}
 use Rattle.user_update.proofs.UpdateSteps.{arrived-nowhere, arrived-later}
 use Rattle.whole_run.specs.Honest.{Setup}
-use Rattle.whole_run.specs.HonestClaim.{updateAnswers}
 use Rattle.whole_run.proofs.HonestState.{Item, texts, digestOf, CanAsk, UpdateOk}
 use Rattle.whole_run.proofs.HonestHeads.{own-range, nodes-lt, nodes-zero}
 use Rattle.whole_run.proofs.HonestNodes.{FullNode, cover-node}
@@ -46,66 +44,37 @@ fresh-update n v w L hashes z =
       hashes-right = λ h. absurd (omega arith);
     }
 
--- it has not ended
-pub fresh-waits : (n v : ℕ) → 0 < n → updateEnded n v freshUpdate ≡ false
-unfolding updateEnded freshUpdate
-fresh-waits n v z = rw (ne-eqb 0 n (λ e. omega arith), lt-leb (n + 1 + length (cover v 0)) 0 (omega arith))
-
--- neither of two tests holds
-or-neither : (a b : Bool) → a || b ≡ false → (a ≡ false) × (b ≡ false)
-or-neither true b e = not-both true refl e
-or-neither false b e = (refl, e)
-
 -- an Update that has not ended: p* is not 0 after the last Status, and hashes of the cover are missing
 pub waits-for : (n v : ℕ) (u : Update) → updateEnded n v u ≡ false
     → (u .asked ≡ n → u .position ≡ 0 → ⊥) × (u .asked < n + 1 + length (cover v (u .position)))
 unfolding updateEnded
 waits-for n v u e =
-    let x = or-neither (eqb (u .asked) n && eqb (u .position) 0) _ e in (
-      λ a b. not-both (eqb (u .asked) n && eqb (u .position) 0) (rw (eq-eqb (u .asked) n a, eq-eqb (u .position) 0 b)) (x .0),
-      leb-false (n + 1 + length (cover v (u .position))) (u .asked) (x .1),
+    let x = leb-false (updateAnswers n v (u .position)) (u .asked) e in (
+      λ a b. let y = rw b at x in omega (arith, answers-none n v),
+      omega (arith, answers-most n v (u .position)),
     )
-
--- the stated count of answers, where nothing is committed
-answers-none : (n v w : ℕ) → w ≡ 0 → updateAnswers n v w ≡ n
-unfolding updateAnswers
-answers-none n v w z = rw (eq-eqb w 0 z) (omega arith)
-
--- where entries are committed: N + 1 + cover
-answers-some : (n v w : ℕ) → (w ≡ 0 → ⊥) → updateAnswers n v w ≡ n + 1 + length (cover v w)
-unfolding updateAnswers
-answers-some n v w z = rw (ne-eqb w 0 z) (omega arith)
-
--- each server is asked for its Status
-answers-low : (n v w : ℕ) → n ≤ updateAnswers n v w
-unfolding updateAnswers
-answers-low n v w = omega arith
 
 module _ (n v w : ℕ) (L : ℕ → Item) (u : Update) (hashes : List ℕ) (ok : UpdateOk n v w L u hashes) where
   -- before the last Status an Update has not ended
   ended-early : u .asked < n → updateEnded n v u ≡ false
   unfolding updateEnded
-  ended-early h = rw (ne-eqb (u .asked) n (λ e. omega arith), lt-leb (n + 1 + length (cover v (u .position))) (u .asked) (omega arith))
+  ended-early h = lt-leb (updateAnswers n v (u .position)) (u .asked) (omega (arith, answers-least n v (u .position)))
 
   -- later p* is w
-  ended-later : n ≤ u .asked → updateEnded n v u ≡ ((eqb (u .asked) n && eqb w 0) || leb (n + 1 + length (cover v w)) (u .asked))
+  ended-later : n ≤ u .asked → updateEnded n v u ≡ leb (updateAnswers n v w) (u .asked)
   unfolding updateEnded
-  ended-later h = ap (λ p. (eqb (u .asked) n && eqb p 0) || leb (n + 1 + length (cover v p)) (u .asked)) (ok .position-later h)
+  ended-later h = ap (λ (p : ℕ). leb (updateAnswers n v p) (u .asked)) (ok .position-later h)
 
   -- "Ends after N + 1 + cover answers, sooner at p* = 0"
   pub ended-is : u .asked ≤ updateAnswers n v w → updateEnded n v u ≡ eqb (u .asked) (updateAnswers n v w)
   ended-is h =
-      let x = n + 1 + length (cover v w) in
+      let x = updateAnswers n v w in
       cases-le n (u .asked)
       (λ i.
       ended-later i
-      ∙ cases-eq w 0
-      (λ z. let e : u .asked ≡ n = omega (arith, answers-none n v w z) in rw (answers-none n v w z, z, e, eq-eqb n n refl))
-      (λ z.
-      rw (answers-some n v w z, ne-eqb w 0 z, and-false (eqb (u .asked) n))
-      (cases-eq (u .asked) x (λ e. le-leb x (u .asked) (omega arith) ∙ sym (eq-eqb (u .asked) x e))
-      (λ e. lt-leb x (u .asked) (omega (arith, answers-some n v w z)) ∙ sym (ne-eqb (u .asked) x e)))))
-      (λ i. ended-early i ∙ sym (ne-eqb (u .asked) (updateAnswers n v w) (λ e. omega (arith, answers-low n v w))))
+      ∙ cases-eq (u .asked) x (λ e. le-leb x (u .asked) (omega arith) ∙ sym (eq-eqb (u .asked) x e))
+      (λ e. lt-leb x (u .asked) (omega arith) ∙ sym (ne-eqb (u .asked) x e)))
+      (λ i. ended-early i ∙ sym (ne-eqb (u .asked) x (λ e. omega (arith, answers-least n v w))))
 
 -- what an Update asks for may be asked
 pub update-asks : (c : Setup) (v w : ℕ) (L : ℕ → Item) (u : Update) (hashes : List ℕ) → UpdateOk (c .servers) v w L u hashes → v ≤ w
@@ -157,9 +126,7 @@ module _ (n w : ℕ) (L : ℕ → Item) (k : Kept) (u : Update) (hashes : List �
   all-status : n ≤ u .asked
   unfolding updateEnded
   all-status =
-      or-cases (eqb (u .asked) n && eqb (u .position) 0) _ e
-      (λ q. let x = eqb-true (u .asked) n (and-true (eqb (u .asked) n) _ q .0) in omega arith)
-      (λ q. let x = leb-true (n + 1 + length (cover (k .version) (u .position))) (u .asked) q in omega arith)
+      omega (arith, leb-true (updateAnswers n (k .version) (u .position)) (u .asked) e, answers-least n (k .version) (u .position))
 
   -- every hash of the cover is in
   all-hashes : 0 < w → n + 1 + length (cover (k .version) w) ≤ u .asked

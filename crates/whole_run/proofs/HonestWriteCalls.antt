@@ -13,13 +13,13 @@ use Rattle.user_update.specs.declared.call.Update.{Update}
 use Rattle.user_write.specs.declared.call.Write.{Write}
 use Rattle.user.specs.declared.ask.Want.{Want}
 use Rattle.user.specs.Asking.{asks, asking, done}
-use Rattle.user_update.specs.Update.{UpdateLeft, updateWant, arrived}
-use Rattle.user_write.specs.Write.{WriteLent, WriteLeft, writeWant, ownLeaf, withRequest, withHashes, withPath, withUpdate, openedAt, opening, heldEntry, writeWaits, writeTaken}
+use Rattle.user_update.specs.Update.{UpdateLeft, updateWant, arrived, updateAnswers}
+use Rattle.user_write.specs.Write.{WriteLent, WriteLeft, writeWant, ownLeaf, withRequest, withHashes, withPath, withUpdate, openedAt, opening, heldEntry, writeWaits, writeTaken, writeAnswers}
 use Rattle.user_update.proofs.UpdateRules.{endedLeft, askingLeft}
 use Rattle.user_write.proofs.Writes.{commit-positive}
-use Rattle.whole_run.specs.World.{User, Lent, writing, startWrite, writeLent, afterWrite, taking, Input}
+use Rattle.whole_run.specs.World.{User, Lent, writing, startWrite, writeLent, afterWrite, taking, Input, returned, sentAfter}
 use Rattle.whole_run.specs.Honest.{Setup, InRange, settingsIn, Server, Network, set, arrives, takenStep, Run}
-use Rattle.whole_run.specs.HonestClaim.{storedTo, storedBy, updateAnswers, writeAnswers}
+use Rattle.whole_run.specs.HonestClaim.{storedTo, storedBy}
 use Rattle.whole_run.proofs.HonestState.{Item, digestOf, bodyAt, ServerOk, RoomLeft, OpenOk}
 use Rattle.whole_run.proofs.HonestLog.{same-digest, items-stay, same-texts}
 use Rattle.whole_run.proofs.HonestFrames.{sent-for, set-other, request-room}
@@ -85,7 +85,7 @@ module _ (c : Setup) (range : InRange c) (r : Run) (a : ℕ) (m : Lent) (entry r
     going = writeWaits (who .kept) now lent asking-on
 
     waits-on : taken ≡ going
-    unfolding asking
+    unfolding asking sentAfter returned
     waits-on =
         write-waits (settingsIn c a) (who .kept) now lent (who .lent .key) (answer-now .given) asking-on closed
         (answer-now .asks-next more) refl refl
@@ -94,7 +94,7 @@ module _ (c : Setup) (range : InRange c) (r : Run) (a : ℕ) (m : Lent) (entry r
     then = leaving going
 
     then-open : ToOpen c (o .log) (o .w) (o .g) a left entry then (arrives c x a .servers) (withUpdate now next)
-    unfolding afterWrite writeWaits
+    unfolding afterWrite writeWaits sentAfter returned asking
     then-open =
         record {
           updates =
@@ -117,7 +117,7 @@ module _ (c : Setup) (range : InRange c) (r : Run) (a : ℕ) (m : Lent) (entry r
         }
 
     then-call : WriteCall c (o .log) (o .w) (o .g) a left entry then (arrives c x a .servers)
-    unfolding afterWrite writeWaits asking heldEntry
+    unfolding afterWrite writeWaits asking heldEntry sentAfter returned
     then-call =
         record {
           call = withUpdate now next;
@@ -137,12 +137,12 @@ module _ (c : Setup) (range : InRange c) (r : Run) (a : ℕ) (m : Lent) (entry r
         }
 
     write-on : OnWay c r a i left (network going)
-    unfolding CallOk afterWrite writeWaits
+    unfolding CallOk afterWrite writeWaits sentAfter returned
     write-on =
         goes-on c r a i left x o (o .log) (o .g) then (λ j h. refl) (pull-leaves c r a i left x o (answer-now .keeps) then refl refl refl) refl then-call
 
     waiting-on : GoesOn c r a i left (taken .step) (network taken)
-    unfolding asking writeWaits
+    unfolding asking writeWaits sentAfter returned
     waiting-on =
         subst (λ (l : WriteLeft). GoesOn c r a i left (l .step) (network l)) (sym waits-on) (record { code = refl; ended = refl; on-way = write-on })
 
@@ -186,18 +186,18 @@ module _ (c : Setup) (range : InRange c) (r : Run) (a : ℕ) (m : Lent) (entry r
         record {
           step = asking reserve digest-body;
           kept = kept;
-          call = openedAt now 0;
+          call = openedAt (withUpdate now next) 0;
           lent = withRequest (withPath (withHashes lent over) path) (written (who .lent .request) 0 (asks (settingsIn c a) reserve digest-body));
         }
 
     opens-now : taken ≡ opens
-    unfolding heldEntry done
+    unfolding heldEntry done sentAfter returned
     opens-now =
         write-arrives (settingsIn c a) (who .kept) now lent (who .lent .key) (answer-now .given) (endedLeft (who .kept) next over (who .lent .request)) closed
         (answer-now .ends-now all) refl refl
         ∙ write-opens (settingsIn c a) (who .kept) now lent (answer-now .given) next over (who .lent .request) entry (o .w) (there .version)
         (to-open .position) (to-open .target) (call .held)
-        ∙ asked-right (settingsIn c a) M (o .w) kept (openedAt now 0) (withPath (withHashes lent over) path) (open-ok .version) (open-ok .path-ok)
+        ∙ asked-right (settingsIn c a) M (o .w) kept (openedAt (withUpdate now next) 0) (withPath (withHashes lent over) path) (open-ok .version) (open-ok .path-ok)
         (call .held ∙ sym (open-ok .entry))
         (λ e. absurd (omega (arith, commit-positive (suc (o .w))))) (omega arith)
 
@@ -208,10 +208,10 @@ module _ (c : Setup) (range : InRange c) (r : Run) (a : ℕ) (m : Lent) (entry r
     body-fits = omega (arith, first-small M (o .w) (open-ok .item .short), call .memory .request)
 
     opened-call : WriteCall c M (o .w) 0 a left entry opener (arrives c x a .servers)
-    unfolding afterWrite asking heldEntry opening writeAnswers
+    unfolding afterWrite asking heldEntry opening writeAnswers sentAfter returned
     opened-call =
         record {
-          call = openedAt now 0;
+          call = openedAt (withUpdate now next) 0;
           is = refl;
           memory =
               record {
@@ -237,7 +237,7 @@ module _ (c : Setup) (range : InRange c) (r : Run) (a : ℕ) (m : Lent) (entry r
         }
 
     leaves : Leaves c M (o .w) 0 a (begunBy r a i a) opener (arrives c x a .servers)
-    unfolding afterWrite opening storedTo
+    unfolding afterWrite opening storedTo sentAfter returned
     leaves =
         let ok = o .good .users-ok a in
         record {
@@ -272,11 +272,11 @@ module _ (c : Setup) (range : InRange c) (r : Run) (a : ℕ) (m : Lent) (entry r
         }
 
     write-opened : OnWay c r a i left (network opens)
-    unfolding CallOk afterWrite
+    unfolding CallOk afterWrite sentAfter returned
     write-opened = goes-on c r a i left x o M 0 opener old leaves refl opened-call
 
     opening-on : GoesOn c r a i left (taken .step) (network taken)
-    unfolding asking
+    unfolding asking sentAfter returned
     opening-on =
         subst (λ (l : WriteLeft). GoesOn c r a i left (l .step) (network l)) (sym opens-now)
         (record { code = refl; ended = refl; on-way = write-opened })

@@ -6,6 +6,7 @@ use Prim.Native.Nat.{ℕ, suc, _+_, _≤_, _<_}
 use native.Mathlib.Omega.{arith}
 use native.Mathlib.Nat.{zero-add}
 use lib.ListN.{length}
+use borrow.Author.Tests.{eq-eqb}
 use Rattle.sha256.proofs.Cases.{by-bool}
 use Rattle.tree.specs.Bytes.{written}
 use Rattle.tree.proofs.ByteLaws.{written-length}
@@ -13,19 +14,19 @@ use Rattle.tree.proofs.Cases.{not-both}
 use Rattle.user_write.specs.declared.call.Write.{Write}
 use Rattle.user.specs.declared.ask.Want.{Want}
 use Rattle.user.specs.Asking.{asks, asking}
-use Rattle.user_update.specs.Update.{freshUpdate, updateWant}
-use Rattle.user_write.specs.Write.{Key, WriteLeft, WriteLent, entryFits, writeWant, withHeld, withRequest, withUpdate, heldEntry, freshWrite, writeWaits, writeStarted}
-use Rattle.user_update.proofs.UpdateRules.{askingLeft}
+use Rattle.user_update.specs.Update.{freshUpdate, updateWant, updateAnswers}
+use Rattle.user_write.specs.Write.{Key, WriteLeft, WriteLent, entryFits, writeWant, withHeld, withRequest, withUpdate, heldEntry, freshWrite, writeWaits, writeStarted, writeAnswers}
+use Rattle.user_update.proofs.UpdateRules.{askingLeft, fresh-waits}
 use Rattle.user_write.proofs.Writes.{commit-positive}
-use Rattle.whole_run.specs.World.{User, Lent, startWrite, writeLent, afterWrite, userStep}
+use Rattle.whole_run.specs.World.{User, Lent, startWrite, writeLent, afterWrite, userStep, returned, sentAfter, unlessRefused}
 use Rattle.whole_run.specs.Honest.{Setup, InRange, keyOf, settingsIn, steps, stepOf, Run, begins}
-use Rattle.whole_run.specs.HonestClaim.{NewWrite, ValidMemory, ValidInput, ValidCall, updateAnswers, writeAnswers, answersOf, countOf}
+use Rattle.whole_run.specs.HonestClaim.{NewWrite, ValidMemory, ValidInput, ValidCall, answersOf, countOf}
 use Rattle.whole_run.proofs.Requests.{entry-sizes}
 use Rattle.whole_run.proofs.HonestState.{bodyAt, OpenOk}
 use Rattle.whole_run.proofs.HonestFrames.{sent-for, request-room}
 use Rattle.whole_run.proofs.HonestKeys.{tree-size}
 use Rattle.whole_run.proofs.HonestAnswers.{Fit}
-use Rattle.whole_run.proofs.HonestUpdates.{fresh-update, fresh-waits}
+use Rattle.whole_run.proofs.HonestUpdates.{fresh-update}
 use Rattle.whole_run.proofs.HonestBodies.{first-small}
 use Rattle.whole_run.proofs.HonestOpening.{write-starts, entry-held}
 use Rattle.whole_run.proofs.HonestWrites.{asked-right, write-resumes}
@@ -65,8 +66,8 @@ module _ (c : Setup) (range : InRange c) (r : Run) (a : ℕ) (m : Lent) (entry r
   fit : Fit c (between .log) (between .w) a (user .kept)
   fit = fit-user c range (between .log) (between .w) (between .g) a (r .begun) (r .network) (valid .one) (valid .listed) (between .good)
 
-  whole : length (m .key .tree) ≡ 65504
-  whole = ap (λ (k : Key). length (k .tree)) (given .key) ∙ tree-size c a
+  whole : 65504 ≤ length (m .key .tree)
+  whole = subst (λ (k : Key). 65504 ≤ length (k .tree)) (sym (given .key)) (tree-size c a)
 
   short : length entry ≤ 1024
   short = entry-sizes entry (given .fits) .1
@@ -83,13 +84,15 @@ module _ (c : Setup) (range : InRange c) (r : Run) (a : ℕ) (m : Lent) (entry r
 
   -- a start that leaves l asks for something
   starts-so : (l : WriteLeft) → started ≡ l → l .step .code ≡ 0 → l .step .ended ≡ false → Goes l → Started c r a (startWrite m entry randomizer) n
-  unfolding steps stepOf userStep answersOf writeAnswers
+  unfolding steps stepOf userStep answersOf writeAnswers unlessRefused
   starts-so l is code ended goes =
       record {
         some = omega arith;
         code = ap (λ (x : WriteLeft). x .step .code) is ∙ code;
         ended = ap (λ (x : WriteLeft). x .step .ended) is ∙ ended;
-        on-way = subst Goes (sym is) goes;
+        on-way =
+            subst (λ (x : WriteLeft). OnWay c r a (startWrite m entry randomizer) n (withUser (r .network) a (unlessRefused (x .step) user (afterWrite user m x)) (r .network .servers)))
+            (sym is) (rw (eq-eqb (l .step .code) 0 code) goes);
       }
 
   -- nothing is open
@@ -107,7 +110,7 @@ module _ (c : Setup) (range : InRange c) (r : Run) (a : ℕ) (m : Lent) (entry r
     next = afterWrite user m waiting
 
     to-open : ToOpen c (between .log) (between .w) (between .g) a n entry next (r .network .servers) (withUpdate fresh freshUpdate)
-    unfolding afterWrite writeWaits answersOf updateAnswers freshUpdate
+    unfolding afterWrite writeWaits answersOf updateAnswers freshUpdate sentAfter returned asking
     to-open =
         let z : 0 < c .servers = omega (arith, range .two) in
         let e = sym (between .holds .count) in
@@ -129,7 +132,7 @@ module _ (c : Setup) (range : InRange c) (r : Run) (a : ℕ) (m : Lent) (entry r
         }
 
     new-call : WriteCall c (between .log) (between .w) (between .g) a n entry next (r .network .servers)
-    unfolding afterWrite writeWaits asking freshWrite
+    unfolding afterWrite writeWaits asking freshWrite sentAfter returned
     new-call =
         record {
           call = withUpdate fresh freshUpdate;
@@ -149,7 +152,7 @@ module _ (c : Setup) (range : InRange c) (r : Run) (a : ℕ) (m : Lent) (entry r
         }
 
     new-start : Started c r a (startWrite m entry randomizer) n
-    unfolding CallOk writeWaits asking afterWrite
+    unfolding CallOk writeWaits asking afterWrite sentAfter returned
     new-start =
         starts-so waiting new-is refl refl
         (start-on-way c r a (startWrite m entry randomizer) between (valid .alone) next refl refl refl refl (λ o. not-both (user .kept .opened) o shut) n
@@ -193,7 +196,7 @@ module _ (c : Setup) (range : InRange c) (r : Run) (a : ℕ) (m : Lent) (entry r
     body-fits = omega (arith, first-small (between .log) (between .w) (ok .item .short), given .memory .request)
 
     open-call : Opened c (between .log) (between .w) (between .g) a n again fresh
-    unfolding afterWrite answersOf freshWrite
+    unfolding afterWrite answersOf freshWrite sentAfter returned asking
     open-call =
         record {
           opened = opened;
@@ -205,7 +208,7 @@ module _ (c : Setup) (range : InRange c) (r : Run) (a : ℕ) (m : Lent) (entry r
         }
 
     resumed-call : WriteCall c (between .log) (between .w) (between .g) a n entry again (r .network .servers)
-    unfolding afterWrite asking freshWrite
+    unfolding afterWrite asking freshWrite sentAfter returned
     resumed-call =
         record {
           call = fresh;
@@ -225,7 +228,7 @@ module _ (c : Setup) (range : InRange c) (r : Run) (a : ℕ) (m : Lent) (entry r
         }
 
     resumed-start : Started c r a (startWrite m entry randomizer) n
-    unfolding CallOk asking afterWrite begins
+    unfolding CallOk asking afterWrite begins sentAfter returned
     resumed-start =
         starts-so reserving resumed-is refl refl
         (start-on-way c r a (startWrite m entry randomizer) between (valid .alone) again refl refl refl refl (λ o. given .resumes o) n resumed-call)

@@ -107,7 +107,7 @@ module _ (c : Setup) (r : InRange c) (L : ℕ → Item) (w g a : ℕ) (entry : L
       by-bool Passes (k .signed) (λ _. refl) (λ e. lt-ltb (k .number) 1024 (ok .unsigned e .1))
 
   -- "Resuming .. starts at Reserve without Update"
-  pub write-resumes : (randomizer : List ℕ) (key : Key) → length (key .tree) ≡ 65504 → entryFits entry ≡ true
+  pub write-resumes : (randomizer : List ℕ) (key : Key) → 65504 ≤ length (key .tree) → entryFits entry ≡ true
       → writeStarted (settingsIn c a) k m entry randomizer key
       ≡ writeAsks (settingsIn c a) k (freshWrite k entry randomizer) (withHeld m (written (m .held) 0 entry))
   write-resumes randomizer key whole shaped =
@@ -121,7 +121,7 @@ module _ (c : Setup) (r : InRange c) (L : ℕ → Item) (w g a : ℕ) (entry : L
       ∙ ap (started s k m entry randomizer key settled in-range room whole shaped) opened
 
   -- an answer taken in: request w′ .asked was accepted
-  module _ (w′ : Write) (key : Key) (going : w′ .opened ≡ true) (few : w′ .asked ≤ commitNumber (suc w)) (whole : length (key .tree) ≡ 65504) where
+  module _ (w′ : Write) (key : Key) (going : w′ .opened ≡ true) (few : w′ .asked ≤ commitNumber (suc w)) (whole : 65504 ≤ length (key .tree)) where
     -- the answer that accepts the request
     abbrev pub given : List ℕ
     given = accepts (c .servers) (suc w) (w′ .asked)

@@ -1,18 +1,18 @@
 -- A write opens: the Update of a Write has ended, and the first Reserve goes out.
 use mathlib.Core.Path.{_≡_, refl, ap, sym, _∙_}
-use mathlib.Core.Bool.{true, false, cond, _&&_}
+use mathlib.Core.Bool.{true, false, cond}
 use mathlib.Core.List.{List, _++_, List·Memᴰ, Memᴰ·append-left, Memᴰ·append-right}
 use Prim.Native.Nat.{ℕ, suc, _+_, _≤_, _<_}
 use native.Mathlib.Omega.{arith}
-use lib.Dec.{eqb, leb}
+use lib.Dec.{leb}
 use lib.ListN.{length}
-use borrow.Author.Tests.{eq-eqb, ne-eqb, eqb-true, leb-true}
+use borrow.Author.Tests.{eq-eqb, ne-eqb, leb-true}
 use Rattle.sha256.specs.Bytes.{written}
 use Rattle.sha256.proofs.Laws.{written-length}
 use Rattle.sha256.proofs.Cases.{by-bool}
 use Rattle.tree.specs.Level.{lg}
 use Rattle.tree.specs.Expr.{Expr, entryText, value, strings, NoCollision}
-use Rattle.tree.specs.Cover.{cover, coverDigest, coverPath, pathBytes, pathWritten}
+use Rattle.tree.specs.Cover.{coverDigest, coverPath, pathBytes, pathWritten}
 use Rattle.tree.specs.Message.{answerBody}
 use Rattle.tree.proofs.Cases.{cases-eq, not-both, positive, and-true}
 use Rattle.tree.proofs.Levels.{lg-below}
@@ -22,21 +22,21 @@ use Rattle.tree.specs.Setup.{Settings}
 use Rattle.user.specs.declared.call.Kept.{Kept}
 use Rattle.user_update.specs.declared.call.Update.{Update}
 use Rattle.user_write.specs.declared.call.Write.{Write}
-use Rattle.user.specs.Asking.{refused, done, asking}
-use Rattle.user_update.specs.Update.{UpdateLeft, updateNext, updateCollected, updateEnded, updateRefused, arrived}
-use Rattle.user_write.specs.Write.{WriteLent, WriteLeft, withHashes, withPath, openedAt, ownLeaf, pathDigest, heldEntry, writeRefused, writeAsks, writeWaits, writeOpens, writeUpdates, opening}
-use Rattle.whole_run.specs.World.{Event, hashed, allHashed, Lent, Reading, User, Outcome, sentBy, coverStrings, afterWrite, openingHashed, writeSigned, writeAccepted, writeLent, recordAccepted}
+use Rattle.user.specs.Asking.{asking}
+use Rattle.user_update.specs.Update.{updateAnswers, updateNext, updateHashes, updateEnded, arrived}
+use Rattle.user_write.specs.Write.{WriteLent, WriteLeft, withHashes, withPath, withUpdate, openedAt, ownLeaf, pathDigest, heldEntry, writeRefused, writeAsks, writeWaits, writeUpdates, opening}
+use Rattle.whole_run.specs.World.{Event, hashed, allHashed, Lent, Reading, User, Outcome, returned, sentBy, sentAfter, coverStrings, afterWrite, openingHashed, writeSigned, writeAccepted, writeLent, recordAccepted}
 use Rattle.tree.proofs.Paths.{path-top}
-use Rattle.user.proofs.Passed.{or-cases}
 use Rattle.whole_run.proofs.Updating
-use Rattle.user_update.proofs.UpdateRules.{Taken, by-taken, by-goes, endedLeft, askingLeft, record-not-last}
+use Rattle.user_update.proofs.UpdateRules.{Taken, endedLeft, askingLeft, record-not-last, answers-least}
 use Rattle.whole_run.proofs.Updating.{arrives}
 use Rattle.whole_run.proofs.States
 use Rattle.whole_run.proofs.States.{NoneSigned, noted-in}
 use Rattle.whole_run.proofs.UpdateSteps
 use Rattle.whole_run.proofs.UpdateSteps.{arrived-ok, record-signed, noted-left, noted-right}
+use Rattle.user_write.proofs.WriteAnswers.{by-updating}
 use Rattle.user_write.proofs.WriteRules.{by-opening, openedLeft, laid, reserve-sent, commit-late}
-use Rattle.whole_run.proofs.WriteSteps.{writeEvents, only-signed, signed-is}
+use Rattle.whole_run.proofs.WriteSteps.{writeEvents, only-signed, signed-is, refused-ok}
 
 -- what an Update that has ended makes of the kept state
 arrived-none : (k : Kept) (c : Update) → c .position ≡ 0 → arrived k c ≡ k
@@ -97,23 +97,21 @@ module _ (s : Settings) (H : ℕ) (named : length (s .log) ≡ 16)
     abbrev outcome : WriteLeft → Outcome
     outcome l = record { user = afterWrite u m l; events = writeEvents s (u .kept) w l a }
 
-    -- the call ends, and nothing but hashes has changed
-    idle-ok : (l : WriteLeft) → l .step .ended ≡ true → l .kept ≡ u .kept → l .lent .path ≡ u .path → Good (outcome l)
-    unfolding afterWrite
-    idle-ok l e ek ep =
-        record { user = record { state = rw (ek, ep) i; call = rw e tt }; signatures = λ b t x. absurd (unsigned s (u .kept) w l a shut b t x) }
+    -- a refusal leaves everything as it was
+    refuses : (code : ℕ) → (code ≡ 0 → ⊥) → Good (outcome (writeRefused code a (u .kept) w lent))
+    refuses code n = refused-ok s H named S G A free u m i w a code n (record { waits = λ _. ok; goes = λ o. not-both (w .opened) o shut })
 
     module _ (t : Taken s (u .kept) (w .update) (m .hashes) (m .request) a) where
       abbrev next : Update
       next = updateNext (s .servers) (w .update) (answerBody a)
 
       abbrev collected : List ℕ
-      collected = updateCollected s (u .kept) (w .update) (m .hashes) (m .request) a
+      collected = updateHashes (s .servers) (w .update) (answerBody a) (m .hashes)
 
       -- the Update goes on
       waits-ok : Noted (outcome (writeWaits (u .kept) w lent (askingLeft s (u .kept) next collected (m .request))) .events)
           → Good (outcome (writeWaits (u .kept) w lent (askingLeft s (u .kept) next collected (m .request))))
-      unfolding afterWrite writeWaits asking writeAccepted
+      unfolding afterWrite writeWaits asking writeAccepted returned
       waits-ok n =
           let l = writeWaits (u .kept) w lent (askingLeft s (u .kept) next collected (m .request)) in
           let r = noted-right s H named S G A free (writeSigned s (u .kept) w l) (writeAccepted s w l a)
@@ -146,9 +144,7 @@ module _ (s : Settings) (H : ℕ) (named : length (s .log) ≡ 16)
         asked-all : s .servers ≤ next .asked
         unfolding updateEnded
         asked-all =
-            or-cases (eqb (next .asked) (s .servers) && eqb (next .position) 0) _ ends
-            (λ q. let x = eqb-true (next .asked) (s .servers) (and-true (eqb (next .asked) (s .servers)) _ q .0) in omega arith)
-            (λ q. let x = leb-true (s .servers + 1 + length (cover (u .kept .version) (next .position))) (next .asked) q in omega arith)
+            omega (arith, leb-true (updateAnswers (s .servers) (u .kept .version) (next .position)) (next .asked) ends, answers-least (s .servers) (u .kept .version) (next .position))
 
         -- what p* = 0 and what p* > 0 mean for the write that opens
         pub record Ready : Type 0 where
@@ -193,7 +189,7 @@ module _ (s : Settings) (H : ℕ) (named : length (s .log) ≡ 16)
             opening-hashed (u .kept .version) (K .version) collected entryLeaf leaf-sized (rw shut at h .hashes)
 
         opens-ok : suc (K .version) ≤ 1048576 → Noted (outcome left .events) → Good (outcome left)
-        unfolding afterWrite writeAsks asking opening pathDigest ownLeaf sentBy
+        unfolding afterWrite writeAsks asking opening pathDigest ownLeaf sentBy sentAfter returned
         opens-ok within n =
             let x = hashed-now n in
             let r = ready (x .0) in
@@ -225,7 +221,7 @@ module _ (s : Settings) (H : ℕ) (named : length (s .log) ≡ 16)
                   goes = λ _. record {
                     took = λ l h _ _. absurd (omega arith);
                     signs = λ h. absurd (omega (arith, commit-late (suc (K .version))));
-                    asks = λ h. reserve-sent s (opening K) (openedAt w 0) (withPath (withHashes lent collected) path) named (t .room) h;
+                    asks = λ h. reserve-sent s (opening K) (openedAt (withUpdate w next) 0) (withPath (withHashes lent collected) path) named (t .room) h;
                   };
                 };
               };
@@ -233,30 +229,10 @@ module _ (s : Settings) (H : ℕ) (named : length (s .log) ≡ 16)
             }
 
     -- an answer that the Update of a Write takes in
-    abbrev after : UpdateLeft → WriteLeft
-    after l = cond (eqb (l .step .code) 0 && l .step .ended) (writeOpens s (u .kept) w lent l a) (writeWaits (u .kept) w lent l)
-
-    refuses : (code : ℕ) (hashes : List ℕ) → (code ≡ 0 → ⊥) → Good (outcome (after (updateRefused code a (u .kept) (w .update) hashes (m .request))))
-    unfolding updateRefused refused writeWaits
-    refuses code hashes n = rw (ne-eqb code 0 n) (idle-ok _ refl refl refl)
-
-    opens : (t : Taken s (u .kept) (w .update) (m .hashes) (m .request) a) (ends : updateEnded (s .servers) (u .kept .version) (next t) ≡ true)
-        → Noted (outcome (after (endedLeft (u .kept) (next t) (collected t) (m .request))) .events)
-        → Good (outcome (after (endedLeft (u .kept) (next t) (collected t) (m .request))))
-    unfolding done writeRefused refused
-    opens t ends =
-        by-opening s (u .kept) w lent (endedLeft (u .kept) (next t) (collected t) (m .request)) a (λ l. Noted (outcome l .events) → Good (outcome l))
-        (λ n. idle-ok _ refl refl refl) (λ h. opens-ok t ends h)
-
-    waits : (t : Taken s (u .kept) (w .update) (m .hashes) (m .request) a)
-        → Noted (outcome (after (askingLeft s (u .kept) (next t) (collected t) (m .request))) .events)
-        → Good (outcome (after (askingLeft s (u .kept) (next t) (collected t) (m .request))))
-    unfolding asking
-    waits t = waits-ok t
-
     pub write-updates-ok : Noted (outcome (writeUpdates s (u .kept) w lent a) .events) → Good (outcome (writeUpdates s (u .kept) w lent a))
-    unfolding writeUpdates
     write-updates-ok =
-        by-taken s (u .kept) (w .update) (m .hashes) (m .request) a (λ l. Noted (outcome (after l) .events) → Good (outcome (after l)))
-        (λ z n. refuses _ _ z)
-        (λ t. by-goes s (u .kept) (next t) (collected t) (m .request) (λ l. Noted (outcome (after l) .events) → Good (outcome (after l))) (λ e. opens t e) (λ e. waits t))
+        by-updating s (u .kept) w lent a (λ l. Noted (outcome l .events) → Good (outcome l)) (λ code z n. refuses code z)
+        (λ t ends.
+        by-opening s (u .kept) w lent (endedLeft (u .kept) (next t) (collected t) (m .request)) a (λ l. Noted (outcome l .events) → Good (outcome l))
+        (λ z n. refuses _ z) (λ h. opens-ok t ends h))
+        (λ t _. waits-ok t)

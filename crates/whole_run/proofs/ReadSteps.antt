@@ -18,9 +18,9 @@ use Rattle.user.specs.declared.call.Kept.{Kept}
 use Rattle.user_read.specs.declared.call.Read.{Read}
 use Rattle.user.specs.Asking.{refused, done, asking}
 use Rattle.user_read.specs.Read
-use Rattle.user_read.specs.Read.{ReadLent, ReadLeft, readChecks, freshRead, readAsks, readRefused, readStarted, readNext, heldText, textAuthor, textEntry, readOver, readGives, readEnds, readTaken}
-use Rattle.whole_run.specs.World.{Event, Lent, Reading, User, Outcome, returned, newReads, afterRead, readHashed, readLent}
-use Rattle.user_read.proofs.ReadRules.{by-taken, next, collected, next-small, entry-kept, handed, held-small, read-given}
+use Rattle.user_read.specs.Read.{ReadLent, ReadLeft, readChecks, readCollected, freshRead, noRead, readAsks, readRefused, readStarted, readNext, heldText, textAuthor, textEntry, readOver, readGives, readEnds, readTaken}
+use Rattle.whole_run.specs.World.{Event, Lent, Reading, User, Outcome, returned, newReads, unlessRefused, afterRead, readHashed, readLent}
+use Rattle.user_read.proofs.ReadRules.{by-taken, next, collected, next-small, handed, held-small, read-given}
 use Rattle.whole_run.proofs.States
 use Rattle.whole_run.proofs.States.{NoneSigned, none-of-none, none-hashed, none-cond, noted-in}
 
@@ -66,11 +66,11 @@ module _ (s : Settings) (H : ℕ) (named : length (s .log) ≡ 16)
     abbrev outcome : ReadLeft → Outcome
     outcome l = record { user = afterRead u m l; events = readHashed (u .kept .version) l }
 
-    refused-ok : (code : ℕ) (a : List ℕ) (r : Read) (x : ReadLent) → (code ≡ 0 → ⊥) → Good (outcome (readRefused code a r x))
+    refused-ok : (code : ℕ) (a : List ℕ) (r : Read) (x : ReadLent) → (code ≡ 0 → ⊥) → r .length ≤ 1026 → Good (outcome (readRefused code a r x))
     unfolding afterRead newReads readRefused refused returned
-    refused-ok code a r x n =
+    refused-ok code a r x n h =
         record {
-          user = record { state = rw (ne-eqb code 0 n) i; call = tt };
+          user = record { state = rw (ne-eqb code 0 n) i; call = rw (ne-eqb code 0 n) h };
           signatures = λ b t y. absurd (read-signs-nothing (u .kept .version) (readRefused code a r x) b t y);
         }
 
@@ -111,27 +111,26 @@ module _ (s : Settings) (H : ℕ) (named : length (s .log) ≡ 16)
     -- an answer that a Read takes in
     pub read-taken-ok : (r : Read) (a : List ℕ) → r .length ≤ 1026 → Noted (outcome (readTaken s (u .kept) r (readLent m) a) .events)
         → Good (outcome (readTaken s (u .kept) r (readLent m) a))
-    unfolding readNext
+    unfolding readNext readCollected
     read-taken-ok r a h =
-        by-taken s (u .kept) r (readLent m) a (λ l. Noted (outcome l .events) → Good (outcome l)) (λ z n. refused-ok _ a r _ z)
+        by-taken s (u .kept) r (readLent m) a (λ l. Noted (outcome l .events) → Good (outcome l)) (λ z n. refused-ok _ a r _ z h)
         (λ t l e.
         ends-ok (next s (u .kept) r (readLent m) a) (collected s (u .kept) r (readLent m) a) (t .some) (t .within) (next-small s (u .kept) r (readLent m) a t h)
-        (rw (entry-kept s (u .kept) r (readLent m) a) (t .room)) e)
-        (λ t n. asks-ok (next s (u .kept) r (readLent m) a) (collected s (u .kept) r (readLent m) a) (next-small s (u .kept) r (readLent m) a t h))
+        (t .room) e)
+        (λ t _ n. asks-ok (next s (u .kept) r (readLent m) a) (collected s (u .kept) r (readLent m) a) (next-small s (u .kept) r (readLent m) a t h))
 
     abbrev started : ReadLeft → Outcome
-    started l = record { user = afterRead u m l; events = [] }
+    started l = record { user = unlessRefused (l .step) u (afterRead u m l); events = [] }
 
-    -- a start notes nothing, and leaves what an answer would
-    quiet : (l : ReadLeft) → Good (outcome l) → Good (started l)
-    quiet l x = record { user = x .user; signatures = λ b t y. absurd (none-of-none b t y) }
-
-    pub read-started-ok : (p : ℕ) → Good (started (readStarted s (u .kept) (readLent m) p))
-    unfolding readStarted freshRead
-    read-started-ok p =
+    pub read-started-ok : States.CallOk s H named S G A free (u .kept) (u .path) (u .sent) (u .call) → (p : ℕ)
+        → Good (started (readStarted s (u .kept) (readLent m) p))
+    unfolding readStarted readRefused refused unlessRefused readAsks asking freshRead
+    read-started-ok call p =
         by-eqb
         (λ b.
         Good (started (cond b (readAsks s (u .kept) (freshRead p) (readLent m))
-        (readRefused (firstCode (readChecks s (u .kept) p (readLent m))) [] (freshRead p) (readLent m)))))
+        (readRefused (firstCode (readChecks s (u .kept) p (readLent m))) [] (noRead p) (readLent m)))))
         (firstCode (readChecks s (u .kept) p (readLent m))) 0
-        (λ e. quiet _ (asks-ok (freshRead p) (readLent m) (omega arith))) (λ n. quiet _ (refused-ok _ [] (freshRead p) (readLent m) n))
+        (λ e.
+        record { user = asks-ok (freshRead p) (readLent m) (omega arith) .user; signatures = λ b t y. absurd (none-of-none b t y) })
+        (λ n. record { user = rw (ne-eqb _ 0 n) (record { state = i; call = call }); signatures = λ b t y. absurd (none-of-none b t y) })

@@ -5,7 +5,7 @@ use mathlib.Core.List.{List, [], _∷_, _++_, List·Memᴰ, List·Memᴰ·not-ni
 use mathlib.Core.Logic.{inl, inr}
 use Prim.Native.Nat.{ℕ}
 use native.Mathlib.Omega.{arith}
-use lib.ListN.{length, take, length-replicate}
+use lib.ListN.{length, take}
 use Rattle.sha256.proofs.Cases.{by-bool}
 use Rattle.tree.specs.Expr.{NoCollision}
 use Rattle.tree.proofs.Cases.{by-eqb, not-both}
@@ -13,8 +13,8 @@ use Rattle.tree.specs.Setup.{Settings}
 use Rattle.server.specs.Serve.{Left}
 use Rattle.user_write.specs.declared.call.Write.{Write}
 use Rattle.user_write.specs.Write.{WriteLeft, writeGoes, writeUpdates, writeTaken}
-use Rattle.whole_run.specs.World.{Group, settingsOf, Event, hashed, signed, accepted, answered, Call, idle, updating, writing, reading, User, Outcome, Input, startUpdate, startWrite, startRead, answer, taking, userStep, afterWrite, writeLent}
-use Rattle.whole_run.specs.Runs.{World, Step, user, server, newUser, setup, withUser, withServer, serverEvents, step, run, FairInput, FairStep, Fair}
+use Rattle.whole_run.specs.World.{Group, settingsOf, Event, hashed, signed, accepted, answered, Call, idle, updating, writing, reading, User, Outcome, Input, startUpdate, startWrite, startRead, answer, taking, userStep, dropped, afterWrite, writeLent}
+use Rattle.whole_run.specs.Runs.{World, Step, user, drops, server, Start, newUser, setup, withUser, withServer, serverEvents, step, run, FairInput, FairStep, Fair}
 use Rattle.whole_run.proofs.Histories
 use Rattle.whole_run.proofs.States
 use Rattle.whole_run.proofs.UpdateSteps.{update-taken-ok, update-started-ok}
@@ -57,9 +57,9 @@ module _ (s : Settings) (H : ℕ) (named : length (s .log) ≡ 16)
 
   pub step-ok : (u : User) (x : Input) → UserOk u → ((a : List ℕ) → x ≡ answer a → u .sent .server ≡ H → A (u .sent .bytes) a) → Keeps (userStep s u x)
   unfolding userStep
-  step-ok u (startUpdate m) i fair n = update-started-ok s H named S G A free u m (i .state)
-  step-ok u (startWrite m entry randomizer) i fair n = write-started-ok s H named S G A free u m (i .state) entry randomizer
-  step-ok u (startRead m p) i fair n = read-started-ok s H named S G A free u m (i .state) p
+  step-ok u (startUpdate m) i fair n = update-started-ok s H named S G A free u m (i .state) (i .call)
+  step-ok u (startWrite m entry randomizer) i fair n = write-started-ok s H named S G A free u m (i .state) entry randomizer (i .call)
+  step-ok u (startRead m p) i fair n = read-started-ok s H named S G A free u m (i .state) (i .call) p
   step-ok u (answer a) i fair n = taking-ok u a (u .call) i (i .call) (fair a refl) n
 
 -- an answer that a fair step takes from H is H's
@@ -131,24 +131,36 @@ module _ (g : Group) (named : length (g .log) ≡ 16)
             elim (List·Memᴰ·append-cases (serverEvents q l) m) [ inl x ↦ absurd (no-signatures q l a t x) | inr y ↦ s .signatures a t y ];
       }
 
+  safe-dropped : (w : World) (a : ℕ) → Safe w → Safe (withUser w a (record { user = dropped (w .users a); events = [] }))
+  unfolding withUser dropped
+  safe-dropped w a s =
+      record {
+        users = λ b.
+            by-eqb (λ t. UserOk (settingsOf g b) (g .follows) named S G A free (cond t (dropped (w .users a)) (w .users b))) b a
+            (λ e. rw e (record { state = s .users a .state; call = tt })) (λ _. s .users b);
+        signatures = s .signatures;
+      }
+
   -- what is noted of a list is noted of each shorter one
   noted-before : (w : World) (x : Step) → Noted (step g w x .log) → Noted (w .log)
   unfolding step withUser withServer
   noted-before w (user a i) n = noted-later (userStep (settingsOf g a) (w .users a) i .events) (w .log) n
+  noted-before w (drops a) n = n
   noted-before w (server q buffer) n = noted-later (serverEvents q _) (w .log) n
 
   safe-step : (w : World) (x : Step) → FairStep g w x → Noted (step g w x .log) → Safe w → Safe (step g w x)
   unfolding step FairStep
   safe-step w (user a i) f n s = safe-user w a i s f n
+  safe-step w (drops a) f n s = safe-dropped w a s
   safe-step w (server q buffer) f n s = safe-server w q _ s
 
-  new-user : (a : ℕ) → UserOk (settingsOf g a) (g .follows) named S G A free newUser
+  new-user : (start : Start) (a : ℕ) → UserOk (settingsOf g a) (g .follows) named S G A free (newUser (start .users a))
   unfolding newUser
-  new-user a =
+  new-user start a =
       record {
         state = record {
           small = omega arith;
-          room = length-replicate {A = ℕ} 672 0;
+          room = start .users a .path-size;
           kept = λ z. absurd (omega arith);
           open-write = λ o. not-both false o refl;
           reads = λ K r m. absurd (List·Memᴰ·not-nil m);
@@ -156,8 +168,8 @@ module _ (g : Group) (named : length (g .log) ≡ 16)
         call = tt;
       }
 
-  pub all-safe : (store : List ℕ) (xs : List Step) → Fair g store xs → Noted (run g store xs .log) → Safe (run g store xs)
+  pub all-safe : (start : Start) (xs : List Step) → Fair g start xs → Noted (run g start xs .log) → Safe (run g start xs)
   unfolding run Fair setup
-  all-safe store [] f n = record { users = new-user; signatures = λ a t m. absurd (List·Memᴰ·not-nil m) }
-  all-safe store (x ∷ xs) f n =
-      safe-step (run g store xs) x (f .0) n (all-safe store xs (f .1) (noted-before (run g store xs) x n))
+  all-safe start [] f n = record { users = new-user start; signatures = λ a t m. absurd (List·Memᴰ·not-nil m) }
+  all-safe start (x ∷ xs) f n =
+      safe-step (run g start xs) x (f .0) n (all-safe start xs (f .1) (noted-before (run g start xs) x n))

@@ -19,12 +19,12 @@ use Rattle.user.specs.declared.call.Kept.{Kept}
 use Rattle.user.specs.declared.call.Step.{Step}
 use Rattle.user_update.specs.declared.call.Update.{Update}
 use Rattle.user.specs.Asking.{requestRoom, refused, done, asking}
-use Rattle.user_update.specs.Update.{UpdateLeft, freshUpdate, updateNext, updateCollected, updateEnded, updateSetup, updateGoes, updateRefused, updateStarted, updateTaken, arrived}
-use Rattle.whole_run.specs.World.{Event, Reading, hashed, allHashed, Lent, User, Outcome, returned, coverStrings, afterUpdate, updateHashed, recordAccepted}
+use Rattle.user_update.specs.Update.{UpdateLeft, freshUpdate, noUpdate, updateNext, updateHashes, updateEnded, updateSetup, updateGoes, updateRefused, updateStarted, updateTaken, arrived}
+use Rattle.whole_run.specs.World.{Event, Reading, hashed, allHashed, Lent, User, Outcome, returned, coverStrings, unlessRefused, afterUpdate, updateHashed, recordAccepted}
 use Rattle.whole_run.proofs.Histories
 use Rattle.user.proofs.Passed.{setup-passed}
 use Rattle.whole_run.proofs.Updating
-use Rattle.user_update.proofs.UpdateRules.{Taken, by-taken, by-goes, endedLeft, askingLeft}
+use Rattle.user_update.proofs.UpdateRules.{Taken, by-taken, by-goes, endedLeft, askingLeft, fresh-waits}
 use Rattle.whole_run.proofs.Updating.{next-ok, arrives}
 use Rattle.whole_run.proofs.States
 use Rattle.whole_run.proofs.States.{NoneSigned, none-of-none, none-hashed, none-accepted, none-append, none-cond, noted-in, reads-grow}
@@ -69,7 +69,7 @@ module _ (s : Settings) (H : ℕ) (named : length (s .log) ≡ 16)
   pub arrived-ok : (k : Kept) (path : List ℕ) (rs : List Reading) (c : Update) (hashes buffer a : List ℕ) (t : Taken s k c hashes buffer a)
       (ok : UpdateOk (k .version) c) → StateOk k path rs
       → Updating.Arrived s H named S G A free k c hashes buffer a t ok
-      → AllIn S (coverDigest (k .version) (updateNext (s .servers) c (answerBody a) .position) (updateCollected s k c hashes buffer a))
+      → AllIn S (coverDigest (k .version) (updateNext (s .servers) c (answerBody a) .position) (updateHashes (s .servers) c (answerBody a) hashes))
       → StateOk (arrived k (updateNext (s .servers) c (answerBody a))) path rs
   unfolding arrived
   arrived-ok k path rs c hashes buffer a t ok i r x =
@@ -82,7 +82,7 @@ module _ (s : Settings) (H : ℕ) (named : length (s .log) ≡ 16)
         kept = λ _. r .signed;
         open-write = λ o. not-both (k .opened) o (t .shut);
         reads = λ K.
-            reads-grow s H named S G A free (k .version) (next .position) (k .digest) (next .digest) (updateCollected s k c hashes buffer a) rs (r .above) z x
+            reads-grow s H named S G A free (k .version) (next .position) (k .digest) (next .digest) (updateHashes (s .servers) c (answerBody a) hashes) rs (r .above) z x
             (r .own) (r .new) (i .reads K);
       })
 
@@ -114,13 +114,14 @@ module _ (s : Settings) (H : ℕ) (named : length (s .log) ≡ 16)
     abbrev outcome : Update → List ℕ → UpdateLeft → Outcome
     outcome c a l = record { user = afterUpdate u m l; events = updateHashed (u .kept .version) l ++ recordAccepted s (l .step) c (l .call) a }
 
-    -- a refusal
-    refused-ok : (c : Update) (a : List ℕ) (code : ℕ) (hashes : List ℕ) → Good (outcome c a (updateRefused code a (u .kept) c hashes (m .request)))
-    unfolding afterUpdate updateRefused refused
-    refused-ok c a code hashes =
+    -- a refusal leaves the call as it was
+    refused-ok : (c : Update) (a : List ℕ) (code : ℕ) → (code ≡ 0 → ⊥) → UpdateOk (u .kept .version) c
+        → Good (outcome c a (updateRefused code a (u .kept) c (m .hashes) (m .request)))
+    unfolding afterUpdate updateRefused refused returned
+    refused-ok c a code n ok =
         record {
-          user = record { state = i; call = tt };
-          signatures = λ b t y. absurd (update-signs-nothing s (u .kept .version) (updateRefused code a (u .kept) c hashes (m .request)) c a b t y);
+          user = record { state = i; call = rw (ne-eqb code 0 n) ok };
+          signatures = λ b t y. absurd (update-signs-nothing s (u .kept .version) (updateRefused code a (u .kept) c (m .hashes) (m .request)) c a b t y);
         }
 
     module _ (c : Update) (a : List ℕ) (t : Taken s (u .kept) c (m .hashes) (m .request) a) (ok : UpdateOk (u .kept .version) c) where
@@ -128,7 +129,7 @@ module _ (s : Settings) (H : ℕ) (named : length (s .log) ≡ 16)
       next = updateNext (s .servers) c (answerBody a)
 
       abbrev collected : List ℕ
-      collected = updateCollected s (u .kept) c (m .hashes) (m .request) a
+      collected = updateHashes (s .servers) c (answerBody a) (m .hashes)
 
       ended-ok : updateEnded (s .servers) (u .kept .version) next ≡ true
           → Noted (outcome c a (endedLeft (u .kept) next collected (m .request)) .events)
@@ -156,7 +157,7 @@ module _ (s : Settings) (H : ℕ) (named : length (s .log) ≡ 16)
 
       asking-ok : Noted (outcome c a (askingLeft s (u .kept) next collected (m .request)) .events)
           → Good (outcome c a (askingLeft s (u .kept) next collected (m .request)))
-      unfolding afterUpdate asking
+      unfolding afterUpdate asking returned
       asking-ok n =
           let l = askingLeft s (u .kept) next collected (m .request) in
           let r = noted-right (updateHashed (u .kept .version) l) (recordAccepted s (l .step) c next a) n in
@@ -173,7 +174,7 @@ module _ (s : Settings) (H : ℕ) (named : length (s .log) ≡ 16)
         → Noted (outcome c a (updateTaken s (u .kept) c (m .hashes) (m .request) a) .events)
         → Good (outcome c a (updateTaken s (u .kept) c (m .hashes) (m .request) a))
     update-taken-ok c a ok =
-        by-taken s (u .kept) c (m .hashes) (m .request) a (λ l. Noted (outcome c a l .events) → Good (outcome c a l)) (λ z n. refused-ok c a _ _)
+        by-taken s (u .kept) c (m .hashes) (m .request) a (λ l. Noted (outcome c a l .events) → Good (outcome c a l)) (λ z n. refused-ok c a _ z ok)
         (λ t.
         by-goes s (u .kept) (updateNext (s .servers) c (answerBody a)) _ (m .request) (λ l. Noted (outcome c a l .events) → Good (outcome c a l))
         (λ e. ended-ok c a t ok e) (λ e. asking-ok c a t ok))
@@ -184,29 +185,23 @@ module _ (s : Settings) (H : ℕ) (named : length (s .log) ≡ 16)
     fresh-ok two = record { small = omega arith; above = λ h. absurd (omega arith); told = λ h. absurd (omega arith) }
 
     abbrev started : UpdateLeft → Outcome
-    started l = record { user = afterUpdate u m l; events = [] }
-
-    idle-ok : (l : UpdateLeft) → l .step .ended ≡ true → l .kept ≡ u .kept → Good (started l)
-    unfolding afterUpdate
-    idle-ok l e k =
-        record {
-          user = record { state = rw k i; call = rw e tt };
-          signatures = λ b x y. absurd (none-of-none b x y);
-        }
+    started l = record { user = unlessRefused (l .step) u (afterUpdate u m l); events = [] }
 
     first-ok : UpdateOk (u .kept .version) freshUpdate → Good (started (askingLeft s (u .kept) freshUpdate (m .hashes) (m .request)))
-    unfolding afterUpdate asking
+    unfolding afterUpdate asking returned unlessRefused
     first-ok ok = record { user = record { state = i; call = ok }; signatures = λ b x y. absurd (none-of-none b x y) }
 
-    pub update-started-ok : Good (started (updateStarted s (u .kept) (m .hashes) (m .request)))
-    unfolding updateStarted updateSetup updateRefused refused done arrived freshUpdate
-    update-started-ok =
+    pub update-started-ok : States.CallOk s H named S G A free (u .kept) (u .path) (u .sent) (u .call)
+        → Good (started (updateStarted s (u .kept) (m .hashes) (m .request)))
+    unfolding updateStarted updateSetup updateRefused refused unlessRefused
+    update-started-ok call =
         by-eqb
         (λ b.
         Good (started (cond b (updateGoes s (u .kept) freshUpdate (m .hashes) (m .request))
-        (updateRefused (firstCode (updateSetup s (u .kept) (m .request))) [] (u .kept) freshUpdate (m .hashes) (m .request)))))
+        (updateRefused (firstCode (updateSetup s (u .kept) (m .request))) [] (u .kept) noUpdate (m .hashes) (m .request)))))
         (firstCode (updateSetup s (u .kept) (m .request))) 0
         (λ e.
-        by-goes s (u .kept) freshUpdate (m .hashes) (m .request) (λ l. Good (started l)) (λ _. idle-ok _ refl refl)
-        (λ _. first-ok (fresh-ok (setup-passed s (u .kept) (requestRoom (m .request)) _ e .0 .two))))
-        (λ n. idle-ok _ refl refl)
+        let two = setup-passed s (u .kept) (requestRoom (m .request)) _ e .0 .two in
+        by-goes s (u .kept) freshUpdate (m .hashes) (m .request) (λ l. Good (started l))
+        (λ y. absurd (not-both _ y (fresh-waits (s .servers) (u .kept .version) (omega arith)))) (λ _. first-ok (fresh-ok two)))
+        (λ n. rw (ne-eqb _ 0 n) (record { user = record { state = i; call = call }; signatures = λ b x y. absurd (none-of-none b x y) }))

@@ -13,7 +13,7 @@ use Rattle.tree.proofs.Cases.{cases-le, cases-eq}
 use Rattle.tree.proofs.Tiles.{cover-some}
 use Rattle.user.specs.declared.call.Kept.{Kept}
 use Rattle.user_update.specs.declared.call.Update.{Update}
-use Rattle.user_update.specs.Update.{updateEnded, updateNext, updateCollected}
+use Rattle.user_update.specs.Update.{updateEnded, updateNext, updateHashes}
 use Rattle.user_update.proofs.UpdateRules.{next-asked, later-position, Above, next-above, Taken, own-given, new-given, counted, status-small, later-digest, last-hash}
 use Rattle.whole_run.proofs.Histories
 
@@ -36,7 +36,7 @@ module _ (s : Settings) (H : ℕ) (named : length (s .log) ≡ 16)
     pub next-ok : (c .asked ≡ s .servers → SignedAt (c .position) (after .digest)) → UpdateOk (k .version) after
     next-ok signs =
         let n = next-asked (s .servers) c (answerBody a) in
-        let up = next-above s k c (updateCollected s k c hashes buffer a) (answerBody a) (t .checks) (ok .above) in
+        let up = next-above s k c (updateHashes (s .servers) c (answerBody a) hashes) (answerBody a) (t .checks) (ok .above) in
         cases-le (s .servers) (c .asked)
         (λ h.
         let p = later-position (s .servers) c (answerBody a) h in
@@ -54,7 +54,7 @@ module _ (s : Settings) (H : ℕ) (named : length (s .log) ≡ 16)
         })
 
     abbrev over : List ℕ
-    over = updateCollected s k c hashes buffer a
+    over = updateHashes (s .servers) c (answerBody a) hashes
 
     -- the end of an Update: p* is 0, and so is the version; or the cover gave both digests
     pub record Arrived : Type 0 where

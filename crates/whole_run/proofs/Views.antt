@@ -5,34 +5,33 @@ use mathlib.Core.List.{List, [], _∷_}
 use Prim.Native.Nat.{ℕ, suc, _+_, _-_, _≤_, _<_}
 use native.Mathlib.Omega.{arith}
 use lib.Dec.{eqb, ltb}
-use lib.ListN.{length, length-replicate}
+use lib.ListN.{length}
 use borrow.Author.Tests.{eqb-true, eqb-false, eq-eqb, ne-eqb, leb-true, ltb-true, lt-leb}
 use Rattle.sha256.specs.Bytes.{written}
 use Rattle.sha256.proofs.Cases.{cases-lt}
-use Rattle.tree.specs.Cover.{cover}
 use Rattle.tree.specs.Message.{requestKind, requestPosition, answerBody}
 use Rattle.tree.specs.Setup.{firstCode, Settings}
 use Rattle.tree.proofs.Cases.{and-true, not-both, by-eqb, cases-eq}
 use Rattle.tree.proofs.CheckLists.{check-passes}
 use Rattle.user.specs.declared.call.Kept.{Kept}
+use Rattle.user.specs.declared.call.Step.{Step as Asked}
 use Rattle.user_update.specs.declared.call.Update.{Update}
 use Rattle.user_write.specs.declared.call.Write.{Write}
 use Rattle.user.specs.Asking.{setupChecks, requestRoom, ofNode, refused, done, asking}
-use Rattle.user_update.specs.Update.{UpdateLeft, freshUpdate, updateEnded, updateWant, updateNext, arrived, updateGoes, updateRefused, updateSetup, updateStarted, updateCollected, updateTaken}
-use Rattle.user_write.specs.Write.{WriteLent, WriteLeft, withHashes, withHeld, withSignature, withUpdate, commitNumber, writeKind, writeWant, writeBody, heldEntry, writeAsks, writeWaits, writeRefused, writeRoom, writeStartChecks, freshWrite, writeStarted, openingChecks, opening, openedAt, writeOpens, writeUpdates, writeChecks, writeSignature, signing, committed, writeGoes, writeTaken}
+use Rattle.user_update.specs.Update.{UpdateLeft, freshUpdate, updateAnswers, updateEnded, updateWant, updateNext, updateHashes, arrived, updateGoes, updateRefused, updateSetup, updateStarted, updateTaken}
+use Rattle.user_write.specs.Write.{WriteLent, WriteLeft, withHeld, withSignature, withUpdate, commitNumber, writeKind, writeWant, writeBody, heldEntry, writeAsks, writeWaits, writeRefused, writeRoom, writeStartChecks, freshWrite, writeStarted, openingChecks, opening, openedAt, writeOpens, writeUpdates, writeChecks, writeSignature, signing, committed, writeGoes, writeTaken}
 use Rattle.user_read.specs.Read.{ReadLeft}
-use Rattle.whole_run.specs.World.{Group, settingsOf, Event, Lent, Call, idle, updating, writing, reading, Sent, User, sentBy, returned, viewSent, afterUpdate, afterWrite, afterRead, writeLent, Input, startUpdate, startWrite, startRead, answer, taking, userStep}
-use Rattle.whole_run.specs.Runs.{Step, user, server, newUser, setup, withUser, withServer, step, run, FairInput, FairStep, Fair}
+use Rattle.whole_run.specs.World.{Group, settingsOf, Event, Lent, Call, idle, updating, writing, reading, Sent, User, sentBy, sentAfter, returned, viewSent, afterUpdate, afterWrite, afterRead, writeLent, unlessRefused, Input, startUpdate, startWrite, startRead, answer, taking, userStep, dropped}
+use Rattle.whole_run.specs.Runs.{Step, user, drops, server, NewUser, Start, newUser, setup, withUser, withServer, step, run, FairInput, FairStep, Fair}
 use Rattle.whole_run.specs.Claim.{ViewIsVersion}
 use Rattle.user.proofs.Passed.{setup-passed, answer-passed, by-cond}
-use Rattle.user_update.proofs.UpdateRules.{Above, next-above, by-taken, by-goes}
+use Rattle.user_update.proofs.UpdateRules.{Above, next-above, by-taken, by-goes, answers-least}
 use Rattle.whole_run.proofs.Requests.{sent-kind, sent-position, update-kind, write-kind, reserve-first, body-short, room-passed, signature-sized, entry-sizes}
 
 -- an Update does not end before its last Status
 not-ended : (n v : ℕ) (c : Update) → c .asked < n → updateEnded n v c ≡ false
 unfolding updateEnded
-not-ended n v c h =
-    rw (ne-eqb (c .asked) n (λ e. omega arith), lt-leb (n + 1 + length (cover v (c .position))) (c .asked) (omega arith))
+not-ended n v c h = lt-leb (updateAnswers n v (c .position)) (c .asked) (omega (arith, answers-least n v (c .position)))
 
 -- the version once an Update has ended is the position that it found, also where that is 0 and nothing changes
 arrived-version : (k : Kept) (c : Update) → k .version ≤ c .position → arrived k c .version ≡ c .position
@@ -50,13 +49,13 @@ record Went (n : ℕ) (k : Kept) (buffer : List ℕ) (l : UpdateLeft) : Type 0 w
   quiet : requestKind (sentBy (l .step) (l .request) .bytes) < 5
   room : l .step .code ≡ 0 → 2566 ≤ length buffer
   moved : cond (returned (l .step)) (l .call .position) (k .version) ≡ l .kept .version
-  above : l .step .ended ≡ false → Above n (l .kept .version) (l .call)
+  above : returned (l .step) ≡ false → Above n (l .kept .version) (l .call)
 
-went-refused : (n : ℕ) (k : Kept) (c : Update) (code : ℕ) (a hashes buffer : List ℕ) → (code ≡ 0 → ⊥)
+went-refused : (n : ℕ) (k : Kept) (c : Update) (code : ℕ) (a hashes buffer : List ℕ) → (code ≡ 0 → ⊥) → Above n (k .version) c
     → Went n k buffer (updateRefused code a k c hashes buffer)
 unfolding updateRefused refused sentBy returned
-went-refused n k c code a hashes buffer z =
-    record { quiet = omega arith; room = λ e. absurd (z e); moved = rw (ne-eqb code 0 z); above = λ e. not-both true refl e }
+went-refused n k c code a hashes buffer z r =
+    record { quiet = omega arith; room = λ e. absurd (z e); moved = rw (ne-eqb code 0 z); above = λ _. r }
 
 module _ (s : Settings) (named : length (s .log) ≡ 16) where
   went-on : (k : Kept) (c : Update) (hashes buffer : List ℕ) → 2566 ≤ length buffer → Above (s .servers) (k .version) c
@@ -82,10 +81,10 @@ module _ (s : Settings) (named : length (s .log) ≡ 16) where
   unfolding requestRoom
   went-taken k c hashes buffer a r =
       by-taken s k c hashes buffer a (Went (s .servers) k buffer)
-      (λ e. went-refused (s .servers) k c _ a (updateCollected s k c hashes buffer a) buffer e)
+      (λ e. went-refused (s .servers) k c _ a hashes buffer e r)
       (λ t.
-      went-on k (updateNext (s .servers) c (answerBody a)) (updateCollected s k c hashes buffer a) buffer (leb-true 2566 (length buffer) (t .room))
-      (next-above s k c (updateCollected s k c hashes buffer a) (answerBody a) (t .checks) r))
+      went-on k (updateNext (s .servers) c (answerBody a)) (updateHashes (s .servers) c (answerBody a) hashes) buffer (leb-true 2566 (length buffer) (t .room))
+      (next-above s k c (updateHashes (s .servers) c (answerBody a) hashes) (answerBody a) (t .checks) r))
 
   -- an Update that starts asks for the first Status
   went-first : (k : Kept) (hashes buffer : List ℕ) → 2 ≤ s .servers → 2566 ≤ length buffer
@@ -93,15 +92,16 @@ module _ (s : Settings) (named : length (s .log) ≡ 16) where
   unfolding freshUpdate
   went-first k hashes buffer two room = went-on k freshUpdate hashes buffer room (λ h. absurd (omega arith))
 
-  went-started : (k : Kept) (hashes buffer : List ℕ) → Went (s .servers) k buffer (updateStarted s k hashes buffer)
-  unfolding updateStarted updateSetup setupChecks requestRoom
+  went-started : (k : Kept) (hashes buffer : List ℕ) → updateStarted s k hashes buffer .step .code ≡ 0
+      → Went (s .servers) k buffer (updateStarted s k hashes buffer)
+  unfolding updateStarted updateSetup setupChecks requestRoom updateRefused refused
   went-started k hashes buffer =
       let code = firstCode (updateSetup s k buffer) in
-      by-cond (Went (s .servers) k buffer) (eqb code 0) _ _
-      (λ e.
+      by-cond (λ l. l .step .code ≡ 0 → Went (s .servers) k buffer l) (eqb code 0) _ _
+      (λ e _.
       let first = setup-passed s k (requestRoom buffer) _ (eqb-true code 0 e) in
       went-first k hashes buffer (first .0 .two) (leb-true 2566 (length buffer) (first .1)))
-      (λ e. went-refused (s .servers) k freshUpdate code [] hashes buffer (eqb-false code 0 e))
+      (λ e z. absurd (eqb-false code 0 e z))
 
 -- the view after a request: a Reserve sets it, others leave it. Where it was at v, a request for v + 1 of any kind leaves it at v.
 view-left : (x : Sent) (view : ℕ) → requestKind (x .bytes) < 5 → viewSent x view ≡ view
@@ -135,7 +135,7 @@ holds-updated n u m buffer l h w =
     record {
       seen = view-left (sentBy (l .step) (l .request)) _ (w .quiet) ∙ rw (h .seen) (w .moved);
       sized = h .sized;
-      calling = by-cond (CallHolds n (afterUpdate u m l)) (l .step .ended) idle (updating (l .call)) (λ e. tt) (λ e. w .above e);
+      calling = by-cond (CallHolds n (afterUpdate u m l)) (returned (l .step)) idle (updating (l .call)) (λ e. tt) (λ e. w .above e);
     }
 
 -- a Write whose Update goes on or is refused
@@ -148,22 +148,22 @@ holds-waiting n u m w o l h z short random shut went r =
     record {
       seen = view-left (sentBy (l .step) (l .request)) _ (went .quiet) ∙ rw r (h .seen);
       sized = z;
-      calling = by-cond (CallHolds n (afterWrite u m (writeWaits (u .kept) w o l))) (l .step .ended) idle (writing (withUpdate w (l .call)))
-          (λ e. tt) (λ e. (short, random, λ d. not-both (w .opened) d shut, λ d i. omega (arith, same, went .above e i)));
+      calling = rw r (short, random, λ d. not-both (w .opened) d shut, λ d i. omega (arith, same, went .above r i));
     }
 
--- a refusal leaves all but the call
-holds-refused : (n : ℕ) (u : User) (m : Lent) (code : ℕ) (a : List ℕ) (w : Write) (o : WriteLent) → Holds n u → length (o .signature) ≡ 2508
-    → (code ≡ 0 → ⊥) → Holds n (afterWrite u m (writeRefused code a (u .kept) w o))
-unfolding afterWrite writeRefused refused sentBy viewSent returned
-holds-refused n u m code a w o h z c = record { seen = rw (ne-eqb code 0 c) (h .seen); sized = z; calling = tt }
+-- a refusal leaves all as it was
+holds-refused : (n : ℕ) (u : User) (m : Lent) (code : ℕ) (a : List ℕ) (w : Write) → Holds n u → CallHolds n u (writing w)
+    → (code ≡ 0 → ⊥) → Holds n (afterWrite u m (writeRefused code a (u .kept) w (writeLent u m)))
+unfolding afterWrite writeRefused refused sentBy sentAfter viewSent returned
+holds-refused n u m code a w h call c =
+    record { seen = rw (ne-eqb code 0 c) (h .seen); sized = h .sized; calling = rw (ne-eqb code 0 c) call }
 
 -- an open write, with the kept state k, hands out its next request: a Reserve, or the view is at the version already
 holds-asking : (s : Settings) → length (s .log) ≡ 16 → (u : User) (m : Lent) (k : Kept) (w : Write) (o : WriteLent) → length (o .signature) ≡ 2508
     → 2566 ≤ length (o .request) → w .length ≤ 1024 → length (w .randomizer) ≡ 32 → w .opened ≡ true → k .version ≤ 1048576
     → ((writeKind (suc (k .version)) (w .asked) ≡ 5 → ⊥) → u .view ≡ k .version)
     → Holds (s .servers) (afterWrite u m (writeAsks s k w o))
-unfolding afterWrite writeAsks asking sentBy returned writeWant ofNode
+unfolding afterWrite writeAsks asking sentBy sentAfter returned writeWant ofNode
 holds-asking s named u m k w o z room short random opened fits seen =
     let p = suc (k .version) in
     let want = writeWant (s .servers) p (w .asked) in
@@ -184,15 +184,16 @@ module _ (s : Settings) (named : length (s .log) ≡ 16) (u : User) (h : Holds (
 
   -- a Write starts
   holds-started : (m : Lent) (entry randomizer : List ℕ) → length randomizer ≡ 32
+      → writeStarted s (u .kept) (writeLent u m) entry randomizer (m .key) .step .code ≡ 0
       → Keeps m (writeStarted s (u .kept) (writeLent u m) entry randomizer (m .key))
-  unfolding writeStarted writeStartChecks setupChecks freshWrite
+  unfolding writeStarted writeStartChecks setupChecks freshWrite writeRefused refused
   holds-started m entry randomizer random =
       let k = u .kept in
       let code = firstCode (writeStartChecks s k (u .path) entry (m .key) (m .request)) in
       let w = freshWrite k entry randomizer in
       let o = withHeld (writeLent u m) (written (m .held) 0 entry) in
-      by-cond (Keeps m) (eqb code 0) _ _
-      (λ e.
+      by-cond (λ l. l .step .code ≡ 0 → Keeps m l) (eqb code 0) _ _
+      (λ e _.
       let first = setup-passed s k (writeRoom (m .key) (m .request)) _ (eqb-true code 0 e) in
       let same = check-passes 18 _ _ (λ z. omega arith) (first .2) in
       let short = entry-sizes entry (check-passes 19 _ _ (λ z. omega arith) (same .1) .0) .1 in
@@ -201,7 +202,7 @@ module _ (s : Settings) (named : length (s .log) ≡ 16) (u : User) (h : Holds (
       (λ d. holds-asking s named u m k w o (h .sized) room short random d (first .0 .version) (λ i. h .seen))
       (λ d. holds-waiting (s .servers) u m w o _ h (h .sized) short random d
       (went-first s named k (m .hashes) (m .request) (first .0 .two) room) (first-asks s k (m .hashes) (m .request) (first .0 .two))))
-      (λ e. holds-refused (s .servers) u m code [] w (writeLent u m) h (h .sized) (eqb-false code 0 e))
+      (λ e z. absurd (eqb-false code 0 e z))
 
   -- an answer taken in by an open write
   holds-goes : (m : Lent) (w : Write) (a : List ℕ) → CallHolds (s .servers) u (writing w) → w .opened ≡ true
@@ -220,7 +221,7 @@ module _ (s : Settings) (named : length (s .log) ≡ 16) (u : User) (h : Holds (
       (λ d. record { seen = c .2 opened; sized = h .sized; calling = tt })
       (λ d. holds-asking s named u m (signing k w) (openedAt w (suc (w .asked))) (withSignature o (writeSignature s k w o (m .key)))
       (signature-sized s k w o (m .key) (h .sized) (c .1) (room .1) (number .0)) (room .0) (c .0) (c .1) refl (first .0 .version) (λ i. h .seen)))
-      (λ e. holds-refused (s .servers) u m code a w o h (h .sized) (eqb-false code 0 e))
+      (λ e. holds-refused (s .servers) u m code a w h c (eqb-false code 0 e))
 
   -- a Read leaves what is kept and the view
   holds-reading : (m : Lent) (l : ReadLeft) → Holds (s .servers) (afterRead u m l)
@@ -229,23 +230,23 @@ module _ (s : Settings) (named : length (s .log) ≡ 16) (u : User) (h : Holds (
       record {
         seen = h .seen;
         sized = h .sized;
-        calling = by-cond (CallHolds (s .servers) (afterRead u m l)) (l .step .ended) idle (reading (l .call)) (λ e. tt) (λ e. tt);
+        calling = by-cond (CallHolds (s .servers) (afterRead u m l)) (returned (l .step)) idle (reading (l .call)) (λ e. tt) (λ e. tt);
       }
 
   -- the Update of a Write has ended: the first Reserve goes out, or a refusal leaves all as it was
-  holds-opens : (m : Lent) (w : Write) (l : UpdateLeft) (a : List ℕ) → w .length ≤ 1024 → length (w .randomizer) ≡ 32
+  holds-opens : (m : Lent) (w : Write) (l : UpdateLeft) (a : List ℕ) → CallHolds (s .servers) u (writing w)
       → 2566 ≤ length (m .request) → Keeps m (writeOpens s (u .kept) w (writeLent u m) l a)
   unfolding writeOpens openingChecks opening
-  holds-opens m w l a short random room =
+  holds-opens m w l a call room =
       let entry = heldEntry w (m .held) in
       let code = firstCode (openingChecks (l .kept .version) entry) in
       by-cond (Keeps m) (eqb code 0) _ _
       (λ e.
       let first = check-passes 20 (ltb (l .kept .version) 1048576) _ (λ z. omega arith) (eqb-true code 0 e) in
       let fits = ltb-true (l .kept .version) 1048576 (first .0) in
-      holds-asking s named u m (opening (l .kept)) (openedAt w 0) _ (h .sized) room short random refl (omega arith)
+      holds-asking s named u m (opening (l .kept)) (openedAt (withUpdate w (l .call)) 0) _ (h .sized) room (call .0) (call .1) refl (omega arith)
       (λ i. absurd (i (reserve-first (suc (l .kept .version))))))
-      (λ e. holds-refused (s .servers) u m code a w (withHashes (writeLent u m) (l .hashes)) h (h .sized) (eqb-false code 0 e))
+      (λ e. holds-refused (s .servers) u m code a w h call (eqb-false code 0 e))
 
   -- an answer taken in by the Update of a Write
   holds-updates : (m : Lent) (w : Write) (a : List ℕ) → CallHolds (s .servers) u (writing w) → w .opened ≡ false
@@ -255,7 +256,7 @@ module _ (s : Settings) (named : length (s .log) ≡ 16) (u : User) (h : Holds (
       let l = updateTaken s (u .kept) (w .update) (m .hashes) (m .request) a in
       let went = went-taken s named (u .kept) (w .update) (m .hashes) (m .request) a (c .3 shut) in
       by-cond (Keeps m) (eqb (l .step .code) 0 && l .step .ended) _ _
-      (λ e. holds-opens m w l a (c .0) (c .1) (went .room (eqb-true (l .step .code) 0 (and-true (eqb (l .step .code) 0) (l .step .ended) e .0))))
+      (λ e. holds-opens m w l a c (went .room (eqb-true (l .step .code) 0 (and-true (eqb (l .step .code) 0) (l .step .ended) e .0))))
       (λ e. holds-waiting (s .servers) u m w (writeLent u m) l h (h .sized) (c .0) (c .1) shut went (and-comm (l .step .ended) (eqb (l .step .code) 0) ∙ e))
 
   -- an answer taken in by any call
@@ -268,31 +269,42 @@ module _ (s : Settings) (named : length (s .log) ≡ 16) (u : User) (h : Holds (
       by-cond (Keeps (u .lent)) (w .opened) _ _ (λ e. holds-goes (u .lent) w a c e) (λ e. holds-updates (u .lent) w a c e)
   holds-taking a (reading r) c = holds-reading (u .lent) _
 
+  -- a start that is refused leaves the user as it was
+  unless : (x : Asked) {next : User} → (x .code ≡ 0 → Holds (s .servers) next) → Holds (s .servers) (unlessRefused x u next)
+  unfolding unlessRefused
+  unless x f = by-cond (Holds (s .servers)) (eqb (x .code) 0) _ u (λ e. f (eqb-true (x .code) 0 e)) (λ _. h)
+
   -- any step of a user
   holds-step : (g : Group) (log : List Event) (i : Input) → FairInput g log u i → Holds (s .servers) (userStep s u i .user)
   unfolding userStep FairInput
   holds-step g log (startUpdate m) f =
-      holds-updated (s .servers) u m (m .request) _ h (went-started s named (u .kept) (m .hashes) (m .request))
-  holds-step g log (startWrite m entry randomizer) f = holds-started m entry randomizer f
-  holds-step g log (startRead m i) f = holds-reading m _
+      unless _ (λ z. holds-updated (s .servers) u m (m .request) _ h (went-started s named (u .kept) (m .hashes) (m .request) z))
+  holds-step g log (startWrite m entry randomizer) f = unless _ (holds-started m entry randomizer f)
+  holds-step g log (startRead m i) f = unless _ (λ _. holds-reading m _)
   holds-step g log (answer a) f = holds-taking a (u .call) (h .calling)
 
-holds-new : (n : ℕ) → Holds n newUser
+holds-new : (n : ℕ) (b : NewUser) → Holds n (newUser b)
 unfolding newUser
-holds-new n = record { seen = refl; sized = length-replicate {A = ℕ} 2508 0; calling = tt }
+holds-new n b = record { seen = refl; sized = b .signature-size; calling = tt }
+
+holds-dropped : (n : ℕ) (u : User) → Holds n u → Holds n (dropped u)
+unfolding dropped
+holds-dropped n u h = record { seen = h .seen; sized = h .sized; calling = tt }
 
 -- after every list of fair steps
-all-hold : (g : Group) → length (g .log) ≡ 16 → (store : List ℕ) (xs : List Step) → Fair g store xs → (a : ℕ)
-    → Holds (g .servers) (run g store xs .users a)
+all-hold : (g : Group) → length (g .log) ≡ 16 → (start : Start) (xs : List Step) → Fair g start xs → (a : ℕ)
+    → Holds (g .servers) (run g start xs .users a)
 unfolding run setup step withUser withServer Fair FairStep
-all-hold g named store [] f a = holds-new (g .servers)
-all-hold g named store (user b i ∷ xs) f a =
-    let w = run g store xs in
+all-hold g named start [] f a = holds-new (g .servers) (start .users a)
+all-hold g named start (user b i ∷ xs) f a =
+    let w = run g start xs in
     by-cond (Holds (g .servers)) (eqb a b) _ _
-    (λ e. holds-step (settingsOf g b) named (w .users b) (all-hold g named store xs (f .1) b) g (w .log) i (f .0))
-    (λ e. all-hold g named store xs (f .1) a)
-all-hold g named store (server q buffer ∷ xs) f a = all-hold g named store xs (f .1) a
+    (λ e. holds-step (settingsOf g b) named (w .users b) (all-hold g named start xs (f .1) b) g (w .log) i (f .0))
+    (λ e. all-hold g named start xs (f .1) a)
+all-hold g named start (drops b ∷ xs) f a =
+    by-cond (Holds (g .servers)) (eqb a b) _ _ (λ e. holds-dropped (g .servers) _ (all-hold g named start xs (f .1) b)) (λ e. all-hold g named start xs (f .1) a)
+all-hold g named start (server q buffer ∷ xs) f a = all-hold g named start xs (f .1) a
 
 pub view-is-version : ViewIsVersion
 unfolding ViewIsVersion
-view-is-version g named store xs f a = all-hold g named store xs f a .seen
+view-is-version g named start xs f a = all-hold g named start xs f a .seen

@@ -6,6 +6,7 @@ use Prim.Native.Nat.{ℕ, suc, _≤_}
 use native.Mathlib.Omega.{arith}
 use lib.Dec.{eqb}
 use lib.ListN.{length}
+use borrow.Author.Tests.{ne-eqb}
 use Rattle.sha256.specs.Bytes.{written}
 use Rattle.sha256.proofs.Cases.{by-bool}
 use Rattle.tree.specs.Expr.{strings, NoCollision}
@@ -13,12 +14,12 @@ use Rattle.tree.specs.Setup.{firstCode, Settings}
 use Rattle.tree.proofs.Cases.{not-both, by-eqb, and-true}
 use Rattle.user.specs.declared.call.Kept.{Kept}
 use Rattle.user_write.specs.declared.call.Write.{Write}
-use Rattle.user.specs.Asking.{requestRoom, refused, done, asking}
+use Rattle.user.specs.Asking.{requestRoom, refused, asking}
 use Rattle.user_update.specs.Update.{freshUpdate, updateGoes}
-use Rattle.user_write.specs.Write.{WriteLent, WriteLeft, withHeld, ownLeaf, freshWrite, writeRefused, writeAsks, writeWaits, writeRoom, writeStartChecks, writeStarted}
-use Rattle.whole_run.specs.World.{Event, allHashed, Lent, Reading, User, Outcome, sentBy, afterWrite, writeLent}
+use Rattle.user_write.specs.Write.{WriteLent, WriteLeft, withHeld, ownLeaf, freshWrite, noWrite, writeRefused, writeAsks, writeWaits, writeRoom, writeStartChecks, writeStarted}
+use Rattle.whole_run.specs.World.{Event, allHashed, Lent, Reading, User, Outcome, returned, sentBy, sentAfter, unlessRefused, afterWrite, writeLent}
 use Rattle.user.proofs.Passed.{setup-passed}
-use Rattle.user_update.proofs.UpdateRules.{by-goes, askingLeft}
+use Rattle.user_update.proofs.UpdateRules.{by-goes, askingLeft, fresh-waits}
 use Rattle.whole_run.proofs.States
 use Rattle.whole_run.proofs.States.{NoneSigned, none-of-none, none-hashed, none-cond}
 use Rattle.whole_run.proofs.UpdateSteps.{fresh-ok}
@@ -37,7 +38,7 @@ module _ (s : Settings) (H : ℕ) (named : length (s .log) ≡ 16)
     events l = cond (u .kept .opened && eqb (l .step .code) 0) (allHashed (strings (ownLeaf s entry))) []
 
     abbrev started : WriteLeft → Outcome
-    started l = record { user = afterWrite u m l; events = events l }
+    started l = record { user = unlessRefused (l .step) u (afterWrite u m l); events = events l }
 
     signs-nothing : (l : WriteLeft) → NoneSigned (events l)
     signs-nothing l = none-cond (u .kept .opened && eqb (l .step .code) 0) _ [] (none-hashed (strings (ownLeaf s entry))) none-of-none
@@ -48,12 +49,8 @@ module _ (s : Settings) (H : ℕ) (named : length (s .log) ≡ 16)
     abbrev held : WriteLent
     held = withHeld (writeLent u m) (written (m .held) 0 entry)
 
-    ended-ok : (l : WriteLeft) → l .step .ended ≡ true → l .kept ≡ u .kept → l .lent .path ≡ u .path → Good (started l)
-    unfolding afterWrite
-    ended-ok l e ek ep = record { user = record { state = rw (ek, ep) i; call = rw e tt }; signatures = λ b t x. absurd (signs-nothing l b t x) }
-
     resumes : u .kept .opened ≡ true → requestRoom (m .request) ≡ true → Good (started (writeAsks s (u .kept) fresh held))
-    unfolding afterWrite writeAsks asking freshWrite sentBy
+    unfolding afterWrite writeAsks asking freshWrite sentBy sentAfter returned unlessRefused
     resumes o room =
         record {
           user = record {
@@ -72,7 +69,7 @@ module _ (s : Settings) (H : ℕ) (named : length (s .log) ≡ 16)
 
     first-ok : u .kept .opened ≡ false → 2 ≤ s .servers
         → Good (started (writeWaits (u .kept) fresh held (askingLeft s (u .kept) freshUpdate (m .hashes) (m .request))))
-    unfolding afterWrite writeWaits asking freshWrite
+    unfolding afterWrite writeWaits asking freshWrite returned unlessRefused
     first-ok c two =
         record {
           user = record {
@@ -84,10 +81,9 @@ module _ (s : Settings) (H : ℕ) (named : length (s .log) ≡ 16)
 
     begins : u .kept .opened ≡ false → 2 ≤ s .servers
         → Good (started (writeWaits (u .kept) fresh held (updateGoes s (u .kept) freshUpdate (m .hashes) (m .request))))
-    unfolding writeWaits done
     begins c two =
         by-goes s (u .kept) freshUpdate (m .hashes) (m .request) (λ l. Good (started (writeWaits (u .kept) fresh held l)))
-        (λ _. ended-ok _ refl refl refl) (λ _. first-ok c two)
+        (λ y. absurd (not-both _ y (fresh-waits (s .servers) (u .kept .version) (omega arith)))) (λ _. first-ok c two)
 
     abbrev code : ℕ
     code = firstCode (writeStartChecks s (u .kept) (u .path) entry (m .key) (m .request))
@@ -98,18 +94,23 @@ module _ (s : Settings) (H : ℕ) (named : length (s .log) ≡ 16)
         let x = setup-passed s (u .kept) (writeRoom (m .key) (m .request)) _ e in
         (x .0 .two, and-true (requestRoom (m .request)) _ (x .1) .0)
 
-    pub write-started-ok : Good (started (writeStarted s (u .kept) (writeLent u m) entry randomizer (m .key)))
-    unfolding writeStarted writeRefused refused
-    write-started-ok =
+    pub write-started-ok : States.CallOk s H named S G A free (u .kept) (u .path) (u .sent) (u .call)
+        → Good (started (writeStarted s (u .kept) (writeLent u m) entry randomizer (m .key)))
+    unfolding writeStarted writeRefused refused unlessRefused
+    write-started-ok call =
         by-eqb
         (λ b.
         Good (started (cond b
         (cond (u .kept .opened) (writeAsks s (u .kept) fresh held) (writeWaits (u .kept) fresh held (updateGoes s (u .kept) freshUpdate (m .hashes) (m .request))))
-        (writeRefused code [] (u .kept) fresh (writeLent u m)))))
+        (writeRefused code [] (u .kept) noWrite (writeLent u m)))))
         code 0
         (λ e.
         let r = room-passed e in
         by-bool
         (λ b. Good (started (cond b (writeAsks s (u .kept) fresh held) (writeWaits (u .kept) fresh held (updateGoes s (u .kept) freshUpdate (m .hashes) (m .request))))))
         (u .kept .opened) (λ o. resumes o (r .1)) (λ c. begins c (r .0)))
-        (λ n. ended-ok _ refl refl refl)
+        (λ n.
+        record {
+          user = rw (ne-eqb code 0 n) (record { state = i; call = call });
+          signatures = λ b t x. absurd (signs-nothing (writeRefused code [] (u .kept) noWrite (writeLent u m)) b t x);
+        })

@@ -20,7 +20,7 @@ use Rattle.user_write.specs.declared.call.Write.{Write}
 use Rattle.user.specs.Asking.{refused, done, asking}
 use Rattle.user_read.specs.Read.{textAuthor, textEntry}
 use Rattle.user_write.specs.Write.{WriteLent, WriteLeft, withSignature, openedAt, commitNumber, pathDigest, writeRefused, writeAsks, signsNext, writeSignature, signing, committed, writeGoes}
-use Rattle.whole_run.specs.World.{Event, signed, Lent, Sent, Reading, User, Outcome, sentBy, afterWrite, openingHashed, writeSigned, writeAccepted, writeLent}
+use Rattle.whole_run.specs.World.{Event, signed, Lent, Sent, Reading, User, Outcome, sentBy, sentAfter, returned, afterWrite, openingHashed, writeSigned, writeAccepted, writeLent}
 use Rattle.whole_run.proofs.Histories
 use Rattle.whole_run.proofs.Histories.{extend, extend-old, held-longer, held-agree}
 use Rattle.user.proofs.Passed.{or-cases}
@@ -158,7 +158,7 @@ module _ (s : Settings) (H : ℕ) (named : length (s .log) ≡ 16)
       -- the Commit was accepted
       committed-ok : w .asked ≡ commitNumber p
           → Good (outcome w a (record { step = done; kept = committed (u .kept) (u .path); call = openedAt w (suc (w .asked)); lent = lent }))
-      unfolding afterWrite done committed
+      unfolding afterWrite done committed returned
       committed-ok e =
           let open-write = i .open-write (g .opened) in
           let signs = open-write .done (ok .signs (omega arith)) in
@@ -208,7 +208,7 @@ module _ (s : Settings) (H : ℕ) (named : length (s .log) ≡ 16)
           either-way false = refl
 
       next-ok : (w .asked ≡ commitNumber p → ⊥) → Noted (outcome w a nextLeft .events) → Good (outcome w a nextLeft)
-      unfolding afterWrite writeAsks asking signing sentBy
+      unfolding afterWrite writeAsks asking signing sentBy sentAfter returned
       next-ok ne n =
           let open-write = i .open-write (g .opened) in
           record {
@@ -250,11 +250,12 @@ module _ (s : Settings) (H : ℕ) (named : length (s .log) ≡ 16)
           }
 
     -- an answer that an open write takes in
-    refused-ok : (w : Write) (a : List ℕ) (code : ℕ) → (code ≡ 0 → ⊥) → Good (outcome w a (writeRefused code a (u .kept) w (writeLent u m)))
-    unfolding afterWrite writeRefused refused writeSigned
-    refused-ok w a code z =
+    pub refused-ok : (w : Write) (a : List ℕ) (code : ℕ) → (code ≡ 0 → ⊥) → States.WriteOk s H named S G A free (u .kept) (u .path) (u .sent) w
+        → Good (outcome w a (writeRefused code a (u .kept) w (writeLent u m)))
+    unfolding afterWrite writeRefused refused writeSigned returned sentAfter
+    refused-ok w a code z ok =
         record {
-          user = record { state = i; call = tt };
+          user = record { state = i; call = rw (ne-eqb code 0 z) ok };
           signatures = λ b t x. absurd (List·Memᴰ·not-nil (rw (ne-eqb code 0 z) at (only-signed s (u .kept) w (writeRefused code a (u .kept) w (writeLent u m)) a b t x)));
         }
 
@@ -265,4 +266,4 @@ module _ (s : Settings) (H : ℕ) (named : length (s .log) ≡ 16)
         → Good (outcome w a (writeGoes s (u .kept) w (writeLent u m) (m .key) a))
     write-goes-ok w a o ok fair =
         by-going s (u .kept) w (writeLent u m) (m .key) a (λ l. Noted (outcome w a l .events) → Good (outcome w a l))
-        (λ z n. refused-ok w a _ z) (λ g e n. committed-ok w a ok fair o g e) (λ g e n. next-ok w a ok fair o g e n)
+        (λ z n. refused-ok w a _ z (record { waits = λ c. not-both (w .opened) o c; goes = λ _. ok })) (λ g e n. committed-ok w a ok fair o g e) (λ g e n. next-ok w a ok fair o g e n)

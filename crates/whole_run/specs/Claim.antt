@@ -6,7 +6,7 @@ use lib.ListN.{length}
 use Rattle.tree.specs.Expr.{NoCollision}
 use Rattle.tree.specs.Label.{wait}
 use Rattle.whole_run.specs.World.{Group, hashed, signed, accepted}
-use Rattle.whole_run.specs.Runs.{World, Step, run, Fair}
+use Rattle.whole_run.specs.Runs.{World, Step, Start, run, Fair}
 
 -- The first exception: "users hashed two different strings to one SHA-256 result". Here it did not happen.
 unfoldable pub NoneCollide : World → Type 0
@@ -29,16 +29,17 @@ unfoldable pub Bounded : Group → World → ℕ → ℕ → ℕ → Type 0
 Bounded g w a b d =
     (min (w .users a .view) (w .users b .view) - d + 1 ≤ wait d (g .servers)) × (wait d (g .servers) ≡ 0 → ⊥)
 
--- The claim, for every group with a log name of 16 bytes, every server H of it, every store, every list of fair steps, any two users and any d.
+-- The claim, for every group with a log name of 16 bytes, every server H of it, all that a start leaves free, every list of fair
+-- steps, any two users and any d.
 unfoldable pub ForkBound : Type 0
 ForkBound =
-    (g : Group) → length (g .log) ≡ 16 → 1 ≤ g .follows → g .follows ≤ g .servers → (store : List ℕ) (xs : List Step) → Fair g store xs
-    → NoneCollide (run g store xs) → NoneForged (run g store xs)
-    → (a b d x y : ℕ) (e f : List ℕ) → HasRead (run g store xs) a d x e → HasRead (run g store xs) b d y f → Differ x e y f
-    → Bounded g (run g store xs) a b d
+    (g : Group) → length (g .log) ≡ 16 → 1 ≤ g .follows → g .follows ≤ g .servers → (b : Start) (xs : List Step) → Fair g b xs
+    → NoneCollide (run g b xs) → NoneForged (run g b xs)
+    → (a c d x y : ℕ) (e f : List ℕ) → HasRead (run g b xs) a d x e → HasRead (run g b xs) c d y f → Differ x e y f
+    → Bounded g (run g b xs) a c d
 
 -- The view is the version that a user keeps, though its four events speak of requests and answers.
 unfoldable pub ViewIsVersion : Type 0
 ViewIsVersion =
-    (g : Group) → length (g .log) ≡ 16 → (store : List ℕ) (xs : List Step) → Fair g store xs → (a : ℕ)
-    → run g store xs .users a .view ≡ run g store xs .users a .kept .version
+    (g : Group) → length (g .log) ≡ 16 → (b : Start) (xs : List Step) → Fair g b xs → (a : ℕ)
+    → run g b xs .users a .view ≡ run g b xs .users a .kept .version
