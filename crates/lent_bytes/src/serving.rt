@@ -1,10 +1,13 @@
 // The server's call, its head in 39 lent bytes.
 ghost use mathlib.Core.Path.{_≡_};
 ghost use Prim.Native.Nat.{_≤_};
+ghost use Rattle.tree.specs.Setup.{settings};
+ghost use Rattle.server.specs.Serve.{served};
 ghost use Rattle.lent_bytes.specs.Server.{headBytes, headOf, resultOf, serverLeft};
 use super::numbers;
 use server::Head;
 use server::Out;
+use server::lent;
 use sha256::bytes;
 use tree::digest;
 
@@ -56,6 +59,42 @@ fn result(out: Out) -> Served
     }
 }
 
+// One call of the server on a head by value: it is lent to the server, and given back as the call leaves it.
+fn on_head(
+    servers: u8,
+    own: u8,
+    log: [u8; 16],
+    users: &[u8],
+    head: Head,
+    store: &mut [u8],
+    used: usize,
+    request: &[u8],
+    answer: &mut [u8],
+) -> Out
+    ensures { λ r. ⌜ (r ≡ served (settings servers own log (now (users .entry))) head (now (store .entry)) used (now (request .entry)) (now (answer .entry)) .out)
+        × ((now (store .exit) ≡ served (settings servers own log (now (users .entry))) head (now (store .entry)) used (now (request .entry)) (now (answer .entry)) .store)
+        × (now (answer .exit) ≡ served (settings servers own log (now (users .entry))) head (now (store .entry)) used (now (request .entry)) (now (answer .entry)) .answer)) ⌝ }
+{
+    let mut h = head;
+    let reply = lent::serve_lent(
+        servers,
+        own,
+        log,
+        users,
+        &mut h,
+        store,
+        used,
+        request,
+        answer,
+    );
+    Out {
+        code: reply.code,
+        head: h,
+        used: reply.used,
+        answered: reply.answered,
+    }
+}
+
 // One call of the server: takes in a request of any bytes. After a refusal the head and the store are as they were.
 pub fn serve(
     servers: u32,
@@ -74,7 +113,7 @@ pub fn serve(
         × (now (answer .exit) ≡ serverLeft servers own (now (log .entry)) (now (users .entry)) (now (head .entry)) (now (store .entry)) used (now (request .entry)) (now (answer .entry)) .answer))) ⌝ }
 {
     let before = head_of(*head);
-    let out = server::serve(
+    let out = on_head(
         numbers::narrow(servers),
         numbers::narrow(own),
         *log,

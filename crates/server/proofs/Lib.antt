@@ -1,5 +1,6 @@
 -- Laws that several proofs cite.
 pub mod Records
+pub mod Scan
 pub mod Appended
 pub mod Asked
 pub mod Judged

@@ -12,14 +12,14 @@ narrow-requires c κs = search needs
 narrow-requires-2 : tie.Need-narrow-requires-2
 narrow-requires-2 c κs = search needs
 
-serve-requires : tie.Need-serve-requires
-serve-requires c κs = search needs
+on-head-requires : tie.Need-on-head-requires
+on-head-requires c κs = search needs
 
 result-requires : tie.Need-result-requires
 result-requires c κs =
     let s = c .before .before .before .before .before .before .before in
     let n = s .before .before .before .before in
-    answer-small (called (n .before .narrow .ensures) (n .narrow2 .ensures) (n .before .before .head-of .ensures) (s .serve .ensures))
+    answer-small (called (n .before .narrow .ensures) (n .narrow2 .ensures) (n .before .before .head-of .ensures) (s .on-head .ensures))
 
 same-length : tie.Need-same-length
 same-length c = search needs
@@ -31,7 +31,7 @@ returns : tie.Need-returns
 returns c =
     let s = c .before .before .before .before .before .before .before .before in
     let n = s .before .before .before .before in
-    left-refused (called (n .before .narrow .ensures) (n .narrow2 .ensures) (n .before .before .head-of .ensures) (s .serve .ensures)) (c .before .if1 .taken) (c .result .ensures)
+    left-refused (called (n .before .narrow .ensures) (n .narrow2 .ensures) (n .before .before .head-of .ensures) (s .on-head .ensures)) (c .before .if1 .taken) (c .result .ensures)
 
 head-bytes-requires : tie.Need-head-bytes-requires
 head-bytes-requires c κs = search needs
@@ -40,7 +40,7 @@ result-requires-2 : tie.Need-result-requires-2
 result-requires-2 c κs =
     let s = c .before .before .before .before .before .before .before .before in
     let n = s .before .before .before .before in
-    answer-small (called (n .before .narrow .ensures) (n .narrow2 .ensures) (n .before .before .head-of .ensures) (s .serve .ensures))
+    answer-small (called (n .before .narrow .ensures) (n .narrow2 .ensures) (n .before .before .head-of .ensures) (s .on-head .ensures))
 
 same-length-3 : tie.Need-same-length-3
 same-length-3 c = search needs
@@ -52,7 +52,7 @@ returns-2 : tie.Need-returns-2
 returns-2 c =
     let s = c .before .before .before .before .before .before .before .before .before in
     let n = s .before .before .before .before in
-    left-taken (called (n .before .narrow .ensures) (n .narrow2 .ensures) (n .before .before .head-of .ensures) (s .serve .ensures)) (c .before .before .if1 .left) (c .before .head-bytes .ensures) (c .result2 .ensures)
+    left-taken (called (n .before .narrow .ensures) (n .narrow2 .ensures) (n .before .before .head-of .ensures) (s .on-head .ensures)) (c .before .before .if1 .left) (c .before .head-bytes .ensures) (c .result2 .ensures)
 
 pub serve-spec : {M : Type 1} → statement M
 serve-spec =
@@ -61,7 +61,7 @@ serve-spec =
     head-of-requires
     narrow-requires
     narrow-requires-2
-    serve-requires
+    on-head-requires
     result-requires
     same-length
     same-length-2
