@@ -1,17 +1,132 @@
-// The table of paths for inputs beside document 01's own: the ends of each range, what lies past them, and what is no input.
+// What `paths` answers to inputs beside document 01's own: the ends of each range, what lies past them, what is no input, and long tables,
+// of which the hash and the last row are printed.
+ghost use Prim.Native.Nat.{_<_};
+use libc::STDOUT_FILENO;
+use owner_map::rows;
+use sha256::bytes;
+
 fn main() {
-    owner_map::write_table(b"2 3");
-    owner_map::write_table(b"16 6\n");
-    owner_map::write_table(b" 8\t4 \r\n");
-    owner_map::write_table(b"1 5");
-    owner_map::write_table(b"17 5");
-    owner_map::write_table(b"4 0");
-    owner_map::write_table(b"4 1048577");
-    owner_map::write_table(b"4 99999999999999999999");
-    owner_map::write_table(b"4");
-    owner_map::write_table(b"4 5 6");
-    owner_map::write_table(b"4,5");
-    owner_map::write_table(b"four five");
-    owner_map::write_table(b"-4 5");
-    owner_map::write_table(b"");
+    tables();
+    refused();
+    long_inputs();
+    long_tables();
+    rooms();
+}
+
+fn tables() {
+    show(b"2 3", b"2 3");
+    show(b"16 6 and a line end", b"16 6\n");
+    show(b"8 4 with blanks around", b" 8\t4 \r\n");
+    show(b"4 1", b"4 1");
+}
+
+fn refused() {
+    show(b"1 5", b"1 5");
+    show(b"17 5", b"17 5");
+    show(b"4 0", b"4 0");
+    show(b"4 1048577", b"4 1048577");
+    show(b"4 99999999999999999999", b"4 99999999999999999999");
+    show(b"4", b"4");
+    show(b"45", b"45");
+    show(b"4 5 6", b"4 5 6");
+    show(b"4,5", b"4,5");
+    show(b"four five", b"four five");
+    show(b"-4 5", b"-4 5");
+    show(b"no bytes", b"");
+}
+
+// Inputs of more than 64 bytes, and of 4,096 and 4,097 bytes.
+fn long_inputs() {
+    show(
+        b"4, 60 zeros and 5",
+        b"4 0000000000000000000000000000000000000000000000000000000000005",
+    );
+    show(
+        b"4, 60 zeros and 1048577",
+        b"4 0000000000000000000000000000000000000000000000000000000000001048577",
+    );
+    show(
+        b"4 5, 61 blanks and garbage",
+        b"4 5                                                             garbage",
+    );
+    let mut text = [b' '; 4097];
+    bytes::put(&mut text, 0, b"4 1");
+    show(b"4 1 and 4093 blanks", bytes::front(&text, 4096));
+    show(b"4 1 and 4094 blanks", &text);
+}
+
+// Prints the name of an input and the answer to it.
+fn show(name: &[u8], input: &[u8]) {
+    print(b"for ");
+    print(name);
+    print(b":\n");
+    owner_map::write_answer(input);
+}
+
+fn long_tables() {
+    hashed(b"4 5000", 4, 5000);
+    hashed(b"2 1048576", 2, 1048576);
+    hashed(b"16 1048576", 16, 1048576);
+}
+
+// Prints the hash of a table, up to which position its first piece goes, and its last row.
+fn hashed(input: &[u8], n: u8, last: u32)
+    requires { ⌜ 0 < last ⌝ }
+{
+    let hash = owner_map::answer_hash(input);
+    print(b"for ");
+    print(input);
+    print(b", SHA-256 of the answer: ");
+    print_hash(&hash);
+    let mut space = [0u8; 65536];
+    let first = rows::fill(&mut space, n, 0, last);
+    print(b"\nfor ");
+    print(input);
+    print(b", last position of the first piece: ");
+    io::print_decimal(STDOUT_FILENO, first.done as u64);
+    let row = rows::fill(&mut space, n, last - 1, last);
+    print(b"\nfor ");
+    print(input);
+    print(b", last row: ");
+    print(bytes::front(&space, row.length));
+}
+
+// Prints how many rows of the table for 4 5 go into buffers that are just too short, or just long enough, for one row and for two.
+fn rooms() {
+    let mut none = [0u8; 104];
+    room(&mut none);
+    let mut one = [0u8; 105];
+    room(&mut one);
+    let mut still_one = [0u8; 114];
+    room(&mut still_one);
+    let mut two = [0u8; 115];
+    room(&mut two);
+}
+
+fn room(out: &mut [u8]) {
+    print(b"for 4 5, rows in a buffer of ");
+    io::print_decimal(STDOUT_FILENO, out.len() as u64);
+    print(b" bytes: ");
+    let piece = rows::fill(out, 4, 0, 5);
+    io::print_decimal(STDOUT_FILENO, piece.done as u64);
+    print(b"\n");
+}
+
+fn print_hash(hash: &[u8]) {
+    print_word(hash, 0);
+    print_word(hash, 4);
+    print_word(hash, 8);
+    print_word(hash, 12);
+    print_word(hash, 16);
+    print_word(hash, 20);
+    print_word(hash, 24);
+    print_word(hash, 28);
+}
+
+fn print_word(hash: &[u8], at: usize) {
+    io::print_hex(STDOUT_FILENO, bytes::u32_at(hash, at) as u64, 8);
+}
+
+fn print(text: &[u8]) {
+    io::write_all(STDOUT_FILENO, text);
 }
