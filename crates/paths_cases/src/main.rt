@@ -14,24 +14,24 @@ fn main() {
 }
 
 fn tables() {
-    show(b"2 3", b"2 3");
+    plain(b"2 3");
     show(b"16 6 and a line end", b"16 6\n");
     show(b"8 4 with blanks around", b" 8\t4 \r\n");
-    show(b"4 1", b"4 1");
+    plain(b"4 1");
 }
 
 fn refused() {
-    show(b"1 5", b"1 5");
-    show(b"17 5", b"17 5");
-    show(b"4 0", b"4 0");
-    show(b"4 1048577", b"4 1048577");
-    show(b"4 99999999999999999999", b"4 99999999999999999999");
-    show(b"4", b"4");
-    show(b"45", b"45");
-    show(b"4 5 6", b"4 5 6");
-    show(b"4,5", b"4,5");
-    show(b"four five", b"four five");
-    show(b"-4 5", b"-4 5");
+    plain(b"1 5");
+    plain(b"17 5");
+    plain(b"4 0");
+    plain(b"4 1048577");
+    plain(b"4 99999999999999999999");
+    plain(b"4");
+    plain(b"45");
+    plain(b"4 5 6");
+    plain(b"4,5");
+    plain(b"four five");
+    plain(b"-4 5");
     show(b"no bytes", b"");
 }
 
@@ -53,6 +53,11 @@ fn long_inputs() {
     bytes::put(&mut text, 0, b"4 1");
     show(b"4 1 and 4093 blanks", bytes::front(&text, 4096));
     show(b"4 1 and 4094 blanks", &text);
+}
+
+// Prints an input and the answer to it.
+fn plain(input: &[u8]) {
+    show(input, input);
 }
 
 // Prints the name of an input and the answer to it.
