@@ -20,10 +20,8 @@ pub fn parse(text: &[u8]) -> Asked
     let second = read_digits(text, skip_blanks(text, first.next));
     let end = skip_blanks(text, second.next);
     let numbers = both(both(first.found, second.found), at_most(text.len(), end));
-    if both(
-        both(at_most(text.len(), 4096), numbers),
-        in_range(first.value, second.value),
-    ) {
+    let read = both(at_most(text.len(), 4096), numbers);
+    if both(read, in_range(first.value, second.value)) {
         return Asked::Table((first.value % 256) as u8, second.value);
     }
     Asked::Refused

@@ -15,24 +15,12 @@ use libc::STDOUT_FILENO;
 use sha256::bytes;
 use sha256::stream::Sha;
 
-// Writes what an input asks for, the table or `22`, and answers the hash of the bytes written. No contract can speak of what is written;
-// the hash is there so that one speaks of the same bytes.
-pub fn write_answer(input: &[u8]) -> [u8; 32]
+// Writes what an input asks for, the table or `22`, where `write` says so. Answers the hash of the answer's bytes: no contract can speak of
+// what is written, so the pieces that are written are hashed as well, and the contract speaks of these.
+pub fn send_answer(input: &[u8], write: bool) -> [u8; 32]
     ensures { λ r. ⌜ r ≡ sha256 (answer (askedBy (now (input .entry)))) ⌝ }
 {
-    send(input::parse(input), true)
-}
-
-// The hash of what `write_answer` writes. Nothing is written.
-pub fn answer_hash(input: &[u8]) -> [u8; 32]
-    ensures { λ r. ⌜ r ≡ sha256 (answer (askedBy (now (input .entry)))) ⌝ }
-{
-    send(input::parse(input), false)
-}
-
-fn send(asked: Asked, write: bool) -> [u8; 32]
-    ensures { λ r. ⌜ r ≡ sha256 (answer asked) ⌝ }
-{
+    let asked = input::parse(input);
     match asked {
         Asked::Table(n, last) => send_table(n, last, write),
         Asked::Refused => send_piece(Sha::begin(b""), b"22\n", write).finish(),

@@ -5,5 +5,5 @@ use libc::STDIN_FILENO;
 fn main() {
     let mut text = [0u8; 4097];
     let n = io::read_full(STDIN_FILENO, &mut text);
-    owner_map::write_answer(&text[..n]);
+    owner_map::send_answer(&text[..n], true);
 }

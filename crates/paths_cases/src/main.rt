@@ -65,7 +65,7 @@ fn show(name: &[u8], input: &[u8]) {
     print(b"for ");
     print(name);
     print(b":\n");
-    owner_map::write_answer(input);
+    owner_map::send_answer(input, true);
 }
 
 fn long_tables() {
@@ -78,7 +78,7 @@ fn long_tables() {
 fn hashed(input: &[u8], n: u8, last: u32)
     requires { ⌜ 0 < last ⌝ }
 {
-    let hash = owner_map::answer_hash(input);
+    let hash = owner_map::send_answer(input, false);
     print(b"for ");
     print(input);
     print(b", SHA-256 of the answer: ");

@@ -1,11 +1,14 @@
-use borrow.Author.Needs.{needs}
 use mathlib.Core.Path.{_∙_, sym, ap}
 use mathlib.Core.List.{[]}
 use Rattle.sha256.specs.Hash.{sha256}
 use Rattle.owner_map.specs.declared.input.Asked.{Asked}
 use Rattle.owner_map.specs.Answer.{answer}
-use Rattle.owner_map.proofs.send.Statement.{statement}
-use Rattle.owner_map.proofs.send.Tie as tie
+use borrow.Author.Needs.{needs}
+use Rattle.owner_map.proofs.send_answer.Statement.{statement}
+use Rattle.owner_map.proofs.send_answer.Tie as tie
+
+parse-requires : tie.Need-parse-requires
+parse-requires c κs = search needs
 
 enum-known-asked : tie.Need-enum-known-asked
 enum-known-asked c = search needs
@@ -32,18 +35,23 @@ finish-requires : tie.Need-finish-requires
 finish-requires c κs = search needs
 
 returns : tie.Need-returns
-returns c = c .send-table .ensures ∙ sym (ap (λ (x : Asked). sha256 (answer x)) (c .before .before .asked .given .1))
+returns c =
+    let told = c .before .before .asked .given .1 in
+    let parse = c .before .before .before .before .parse .ensures in
+    c .send-table .ensures ∙ ap (λ (x : Asked). sha256 (answer x)) (sym told ∙ parse)
 
 returns-2 : tie.Need-returns-2
 returns-2 c =
-    let enum-told-given-1 = c .before .before .before .before .before .enum-told .given .1 in
-    let begin = c .before .before .before .begin .ensures in
-    c .finish .ensures _ (c .before .send-piece .ensures [] begin) ∙ sym (ap (λ (x : Asked). sha256 (answer x)) enum-told-given-1)
+    let told = c .before .before .before .before .before .enum-told .given .1 in
+    let parse = c .before .before .before .before .before .before .before .parse .ensures in
+    let sent = c .before .send-piece .ensures [] (c .before .before .before .begin .ensures) in
+    c .finish .ensures _ sent ∙ ap (λ (x : Asked). sha256 (answer x)) (sym told ∙ parse)
 
-pub send-spec : {M : Type 1} → statement M
-send-spec =
+pub send-answer-spec : {M : Type 1} → statement M
+send-answer-spec =
     tie.close
     (tie.spec
+    parse-requires
     enum-known-asked
     send-table-requires
     enum-told
