@@ -34,7 +34,7 @@ both-true : (a b : Bool) → (a && b) ≡ true → (a ≡ true) × (b ≡ true)
 both-true true b e = (refl, e)
 both-true false b e = absurd (false≢true e)
 
-in-range : (a b : ℕ) → inRange a b ≡ true → (a ≤ 16) × (b ≤ 1048576)
+pub in-range : (a b : ℕ) → inRange a b ≡ true → (a ≤ 16) × (b ≤ 1048576)
 unfolding inRange
 in-range a b e =
     let s = both-true (leb 2 a && leb a 16) (leb 1 b && leb b 1048576) e in
