@@ -62,9 +62,7 @@ fn plain(input: &[u8]) {
 
 // Prints the name of an input and the answer to it.
 fn show(name: &[u8], input: &[u8]) {
-    print(b"for ");
-    print(name);
-    print(b":\n");
+    say(name, b":\n");
     owner_map::send_answer(input, true);
 }
 
@@ -78,42 +76,28 @@ fn long_tables() {
 fn hashed(input: &[u8], n: u8, last: u32)
     requires { ⌜ 0 < last ⌝ }
 {
-    let hash = owner_map::send_answer(input, false);
-    print(b"for ");
-    print(input);
-    print(b", SHA-256 of the answer: ");
-    print_hash(&hash);
+    say(input, b", SHA-256 of the answer: ");
+    print_hash(&owner_map::send_answer(input, false));
     let mut space = [0u8; 65536];
-    let first = rows::fill(&mut space, n, 0, last);
-    print(b"\nfor ");
-    print(input);
-    print(b", last position of the first piece: ");
-    io::print_decimal(STDOUT_FILENO, first.done as u64);
+    say(input, b", last position of the first piece: ");
+    print_number(rows::fill(&mut space, n, 0, last).done);
+    say(input, b", last row: ");
     let row = rows::fill(&mut space, n, last - 1, last);
-    print(b"\nfor ");
-    print(input);
-    print(b", last row: ");
     print(bytes::front(&space, row.length));
 }
 
-// Prints how many rows of the table for 4 5 go into buffers that are just too short, or just long enough, for one row and for two.
+// Prints how many rows of the table for 4 5 go into a buffer that is just too short for one, and into one that is just long enough.
 fn rooms() {
-    let mut none = [0u8; 104];
-    room(&mut none);
-    let mut one = [0u8; 105];
-    room(&mut one);
-    let mut still_one = [0u8; 114];
-    room(&mut still_one);
-    let mut two = [0u8; 115];
-    room(&mut two);
+    let mut short = [0u8; 104];
+    say(b"4 5", b", rows in a buffer of 104 bytes: ");
+    print_number(rows::fill(&mut short, 4, 0, 5).done);
+    let mut long = [0u8; 105];
+    say(b"4 5", b", rows in a buffer of 105 bytes: ");
+    print_number(rows::fill(&mut long, 4, 0, 5).done);
 }
 
-fn room(out: &mut [u8]) {
-    print(b"for 4 5, rows in a buffer of ");
-    io::print_decimal(STDOUT_FILENO, out.len() as u64);
-    print(b" bytes: ");
-    let piece = rows::fill(out, 4, 0, 5);
-    io::print_decimal(STDOUT_FILENO, piece.done as u64);
+fn print_number(n: u32) {
+    io::print_decimal(STDOUT_FILENO, n as u64);
     print(b"\n");
 }
 
@@ -126,10 +110,18 @@ fn print_hash(hash: &[u8]) {
     print_word(hash, 20);
     print_word(hash, 24);
     print_word(hash, 28);
+    print(b"\n");
 }
 
 fn print_word(hash: &[u8], at: usize) {
     io::print_hex(STDOUT_FILENO, bytes::u32_at(hash, at) as u64, 8);
+}
+
+// Prints for which input a line is, and what it says.
+fn say(input: &[u8], what: &[u8]) {
+    print(b"for ");
+    print(input);
+    print(what);
 }
 
 fn print(text: &[u8]) {
