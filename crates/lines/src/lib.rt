@@ -1,6 +1,10 @@
 // Text as programs read it: lines, blanks and decimal numbers.
-ghost use Prim.Native.Nat.{_≤_};
-ghost use lib.ListN.{length};
+ghost use mathlib.Core.Bool.{cond};
+ghost use mathlib.Core.Path.{_≡_};
+ghost use Prim.Native.Nat.{_+_, _*_, _%_, _≤_, min};
+ghost use lib.Dec.{ltb};
+ghost use lib.ListN.{length, drop};
+ghost use Rattle.lines.specs.Text.{isBlank, isDigit, isOther, run, number};
 
 // A number read from a text: its value, at most 9,999,999 (a larger one counts as that), whether a digit was there, and what is
 // left is at `next`.
@@ -12,7 +16,7 @@ pub struct Digits {
 
 // The first place where s has the byte b, or the length of s where there is none.
 pub fn find(s: &[u8], b: u8) -> usize
-    ensures { λ r. ⌜ r ≤ length (now (s .entry)) ⌝ }
+    ensures { λ r. ⌜ (r ≡ run (isOther b) (now (s .entry))) × (r ≤ length (now (s .entry))) ⌝ }
 {
     let mut at = 0;
     while at < s.len() {
@@ -25,18 +29,13 @@ pub fn find(s: &[u8], b: u8) -> usize
 }
 
 // The first place from `at` on that is no blank.
-pub fn skip_blanks(text: &[u8], at: usize) -> usize {
+pub fn skip_blanks(text: &[u8], at: usize) -> usize
+    ensures { λ r. ⌜ r ≡ at + run isBlank (drop at (now (text .entry))) ⌝ }
+{
     let mut i = at;
     while i < text.len() {
-        let b = text[i];
-        if b != b' ' {
-            if b != b'\n' {
-                if b != b'\r' {
-                    if b != b'\t' {
-                        return i;
-                    }
-                }
-            }
+        if !is_blank(text[i]) {
+            return i;
         }
         i += 1;
     }
@@ -44,31 +43,61 @@ pub fn skip_blanks(text: &[u8], at: usize) -> usize {
 }
 
 // The decimal number from `at` on, up to the first byte that is no digit.
-pub fn read_digits(text: &[u8], at: usize) -> Digits {
+pub fn read_digits(text: &[u8], at: usize) -> Digits
+    ensures { λ r. ⌜ (r .value ≡ min (number (drop at (now (text .entry)))) 9999999)
+        × ((r .found ≡ ltb 0 (run isDigit (drop at (now (text .entry)))))
+        × (r .next ≡ at + run isDigit (drop at (now (text .entry))))) ⌝ }
+{
     let mut value: u32 = 0;
     let mut i = at;
-    let mut found = false;
     while i < text.len() {
         let b = text[i];
-        if b < b'0' {
-            break;
-        }
-        if b'9' < b {
-            break;
+        if !is_digit(b) {
+            return Digits {
+                value,
+                found: at < i,
+                next: i,
+            };
         }
         value = longer(value, b);
-        found = true;
         i += 1;
     }
     Digits {
         value,
-        found,
+        found: at < i,
         next: i,
     }
 }
 
+// Whether a byte is a space, a tab or a byte of a line end.
+fn is_blank(b: u8) -> bool
+    ensures { λ r. ⌜ r ≡ isBlank b ⌝ }
+{
+    if b == b' ' {
+        return true;
+    }
+    if b == b'\t' {
+        return true;
+    }
+    if b == b'\n' {
+        return true;
+    }
+    b == b'\r'
+}
+
+fn is_digit(b: u8) -> bool
+    ensures { λ r. ⌜ r ≡ isDigit b ⌝ }
+{
+    if b < b'0' {
+        return false;
+    }
+    b <= b'9'
+}
+
 // A number with one more decimal digit, at most 9,999,999.
-fn longer(value: u32, digit: u8) -> u32 {
+fn longer(value: u32, digit: u8) -> u32
+    ensures { λ r. ⌜ r ≡ cond (ltb 999999 value) 9999999 (value * 10 + digit % 16 % 10) ⌝ }
+{
     if 999999 < value {
         return 9999999;
     }

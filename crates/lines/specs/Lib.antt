@@ -1,0 +1,2 @@
+-- What the contracts of the text functions cite.
+pub mod Text

@@ -1,0 +1,34 @@
+-- Text as programs read it: which bytes are blanks and digits, how many of them a text begins with, and decimal numbers.
+use mathlib.Core.Bool.{Bool, cond, not, _&&_, _||_}
+use mathlib.Core.List.{List, [], _∷_}
+use Prim.Native.Nat.{ℕ, suc, _+_, _-_, _*_}
+use lib.Dec.{leb, eqb}
+use lib.ListN.{drop}
+
+-- A space, a tab or a byte of a line end.
+unfoldable pub isBlank : ℕ → Bool
+isBlank b = eqb b 32 || eqb b 9 || eqb b 10 || eqb b 13
+
+unfoldable pub isDigit : ℕ → Bool
+isDigit b = leb 48 b && leb b 57
+
+unfoldable pub isOther : ℕ → ℕ → Bool
+isOther x b = not (eqb b x)
+
+-- How many bytes that pass the test t stand at the front of s.
+unfoldable pub run : (ℕ → Bool) → List ℕ → ℕ
+run t [] = 0
+run t (b ∷ s) = cond (t b) (suc (run t s)) 0
+
+-- What stands behind them.
+unfoldable pub past : (ℕ → Bool) → List ℕ → List ℕ
+past t s = drop (run t s) s
+
+-- The number that the digits at the front of s stand for, behind digits that stand for v.
+unfoldable pub numberFrom : ℕ → List ℕ → ℕ
+numberFrom v [] = v
+numberFrom v (b ∷ s) = cond (isDigit b) (numberFrom (v * 10 + (b - 48)) s) v
+
+-- The number that the digits at the front of s stand for, 0 where there are none.
+unfoldable pub number : List ℕ → ℕ
+number s = numberFrom 0 s
