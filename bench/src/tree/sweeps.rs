@@ -87,7 +87,7 @@ fn cover(tally: &mut Tally, v: u32, w: u32, length: usize) {
 /// The cover with the bytes that it needs, one and seven more, one less, and none.
 fn cover_about(tally: &mut Tally, v: u32, w: u32) {
     let needed = NODE * cover_nodes(v, w).len();
-    for length in [needed, needed + 1, needed + 7, needed - 1, 0] {
+    for length in [needed, needed + 1, needed + 7, needed.saturating_sub(1), 0] {
         cover(tally, v, w, length);
     }
 }
