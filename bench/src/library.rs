@@ -40,6 +40,13 @@ mod raw {
             signature: *const u8,
             signature_len: usize,
         ) -> u32;
+        pub fn kozbrax_first_label(p: u32) -> u32;
+        pub fn kozbrax_owner(servers: u32, p: u32, l: u32) -> u32;
+        pub fn kozbrax_wait(servers: u32, p: u32) -> u32;
+        pub fn kozbrax_cover(v: u32, w: u32, nodes: *mut u8, nodes_len: usize) -> u32;
+        pub fn kozbrax_leaf(author: u16, entry: *const u8, entry_len: usize, out: *mut u8, out_len: usize) -> u32;
+        pub fn kozbrax_digest(leaves: *const u8, leaves_len: usize, out: *mut u8, out_len: usize) -> u32;
+        pub fn kozbrax_board(targets: *const u32, targets_len: usize, standing: *mut u32, standing_len: usize) -> u32;
         pub fn kozbrax_server(
             servers: u32,
             own: u32,
@@ -177,6 +184,48 @@ pub fn lms_check(key: &[u8], text: &[u8], signature: &[u8]) -> u32 {
     unsafe {
         raw::kozbrax_lms_check(key.as_ptr(), key.len(), text.as_ptr(), text.len(), signature.as_ptr(), signature.len())
     }
+}
+
+/// The first label of p's path, or 4294967295.
+pub fn first_label(p: u32) -> u32 {
+    // SAFETY: numbers alone, here and in the next two. The functions have no `requires`.
+    unsafe { raw::kozbrax_first_label(p) }
+}
+
+/// The server that owns node (p, l), or 4294967295.
+pub fn owner(servers: u32, p: u32, l: u32) -> u32 {
+    // SAFETY: as for `first_label`.
+    unsafe { raw::kozbrax_owner(servers, p, l) }
+}
+
+/// The wait Q(p, servers), or 4294967295.
+pub fn wait(servers: u32, p: u32) -> u32 {
+    // SAFETY: as for `first_label`.
+    unsafe { raw::kozbrax_wait(servers, p) }
+}
+
+/// The count of the cover's nodes, which are in the first bytes, 5 each; or 4294967295 and the buffer unchanged.
+pub fn cover(v: u32, w: u32, nodes: &mut [u8]) -> u32 {
+    // SAFETY: the slice is valid for its length and borrowed alone. The function has no `requires`.
+    unsafe { raw::kozbrax_cover(v, w, nodes.as_mut_ptr(), nodes.len()) }
+}
+
+/// 0 and the leaf in the first 32 bytes of out, or 21 and out unchanged where it is shorter.
+pub fn leaf(author: u16, entry: &[u8], out: &mut [u8]) -> u32 {
+    // SAFETY: as for `sha256`.
+    unsafe { raw::kozbrax_leaf(author, entry.as_ptr(), entry.len(), out.as_mut_ptr(), out.len()) }
+}
+
+/// 0 and the digest in the first 32 bytes of out; or out unchanged, and 21 where it is shorter, else 24.
+pub fn digest(leaves: &[u8], out: &mut [u8]) -> u32 {
+    // SAFETY: as for `sha256`.
+    unsafe { raw::kozbrax_digest(leaves.as_ptr(), leaves.len(), out.as_mut_ptr(), out.len()) }
+}
+
+/// 0 and the board, or 21 and `standing` unchanged where the lengths differ.
+pub fn board(targets: &[u32], standing: &mut [u32]) -> u32 {
+    // SAFETY: as for `sha256`; both lengths count numbers.
+    unsafe { raw::kozbrax_board(targets.as_ptr(), targets.len(), standing.as_mut_ptr(), standing.len()) }
 }
 
 /// The code, the length of the answer in its buffer, and the store's new used length. 22 and 21 write nothing.

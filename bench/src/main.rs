@@ -10,6 +10,7 @@ mod server;
 mod stack;
 mod store;
 mod timing;
+mod tree;
 mod user;
 
 fn main() {
@@ -20,9 +21,13 @@ fn main() {
         "lms" => lms::run(),
         "server" => server::run(seed),
         "store" => store::run(seed),
+        "tree" => tree::run(seed),
         "user" => user::run(seed),
         _ => {
-            eprintln!("usage: cargo run --release -- SUBJECT, where SUBJECT is: hash, lms, server [SEED], store [SEED], user [SEED]");
+            eprintln!(
+                "usage: cargo run --release -- SUBJECT, where SUBJECT is: hash, lms, server [SEED], store [SEED], tree [SEED], \
+                 user [SEED]"
+            );
             std::process::exit(2);
         }
     }

@@ -1,6 +1,5 @@
 // The nodes of a cover.
 ghost use mathlib.Core.Path.{_≡_};
-ghost use lib.ListN.{length};
 ghost use Rattle.tree.specs.Cover.{cover as coverOf};
 ghost use Rattle.sha256.specs.Bytes.{written};
 ghost use Rattle.kozbrax.specs.Tree.{nodesBytes, coverAsked, coverGiven, coverLeft};

@@ -5,26 +5,26 @@ use mathlib.Core.List.{List, _++_, append-assoc}
 use Prim.Native.Nat.{ℕ, _+_, _-_, _*_, _^_, _≤_, _<_, suc}
 use native.Mathlib.Nat.{add-zero, pow-suc}
 use native.Mathlib.Omega.{arith}
-use borrow.Author.Tests.{eq-eqb, lt-ltb, le-leb, lt-leb}
+use borrow.Author.Tests.{eq-eqb, lt-ltb, le-leb}
 use lib.Pow.{pow-pos, pow-mono}
 use lib.ListN.{length, take, drop, length-append}
 use lib.Seq.{take-at, drop-at, drop-drop}
-use Rattle.sha256.specs.Bytes.{numberAt}
+use Rattle.sha256.specs.Bytes.{numberAt, written}
 use Rattle.lms.specs.Types.{LMOTS_SHA256_N32_W4, LMS_SHA256_M32_H10, u32str, cat, prefix}
 use Rattle.lms.specs.declared.Ots.{Ots}
 use Rattle.lms.specs.declared.Lms.{Lms}
 use Rattle.lms.specs.Ots.{K, textHash, opened, otsSignature}
 use Rattle.lms.specs.Tree.{leaf, T, treeBytes, treeSize, publicKey}
-use Rattle.lms.specs.Signature.{path, signature, signatureSize}
+use Rattle.lms.specs.Signature.{nodeAt, path, signature, signatureSize}
 use Rattle.lms.specs.Check.{Tc, keyFits, typePlace, signatureFits, rootOf, checkOf}
+use Rattle.lms.specs.declared.Checked.{Checked}
 use Rattle.lms.specs.Claims.{Set, RoundTrip, SignatureLength, TextHashed, CallsRoundTrip}
 use Rattle.sha256.proofs.Words.{number-drop}
 use Rattle.sha256.proofs.Laws.{be-length, number-be, eqs-refl, written-fits}
-use Rattle.sha256.proofs.Cases.{cases-lt}
-use Rattle.lms.specs.Calls.{generateCode, generated}
+use Rattle.lms.specs.Calls.{generateCode, generated, publicKeyCode, publicKeyWritten, signCode, signed}
 use Rattle.lms.proofs.Parts.{cat-length}
 use Rattle.lms.proofs.Chains.{opened-length, opened-closes}
-use Rattle.lms.proofs.Nodes.{at-leaf, node-in-tree, node-length, tree-length, path-length, path-leads-to-root}
+use Rattle.lms.proofs.Nodes.{node-whole, at-leaf, node-in-tree, node-length, tree-length, path-length, path-leads-to-root}
 
 pub text-hashed : TextHashed
 unfolding TextHashed textHash prefix
@@ -88,7 +88,8 @@ module _ (o : Ots) (l : Lms) (I SEED C message tree : List ℕ) (q : ℕ) (lc : 
 
   y-length : length y ≡ 32 * o .p
   y-length =
-      cat-length (opened o I SEED q (textHash I q C message)) (o .p) (λ i _. opened-length o I SEED q (textHash I q C message) i) (o .p) (omega arith)
+      cat-length (opened o I SEED q (textHash I q C message)) (o .p)
+      (λ i _. opened-length o I SEED q (textHash I q C message) i) (o .p) (omega arith)
 
   sig-from-0 : sig ≡ u32str q ++ (u32str (o .otstype) ++ (C ++ (y ++ end)))
   unfolding signature otsSignature
@@ -146,7 +147,8 @@ signature-length o l I SEED C message tree q lc few whole = sig-length o l I SEE
 
 -- Algorithm 6a finds the root, whatever follows the strings y and the tree
 root-found : (o : Ots) (l : Lms) (I SEED C message after rest : List ℕ) (q : ℕ) → q < 2 ^ l .h
-    → Tc o (l .h) I q C (cat (opened o I SEED q (textHash I q C message)) (o .p) ++ after) (path (l .h) (treeBytes o (l .h) I SEED ++ rest) q) message
+    → Tc o (l .h) I q C (cat (opened o I SEED q (textHash I q C message)) (o .p) ++ after)
+    (path (l .h) (treeBytes o (l .h) I SEED ++ rest) q) message
     ≡ T o (l .h) I SEED 1
 unfolding Tc
 root-found o l I SEED C message after rest q few =
@@ -159,7 +161,8 @@ root-found o l I SEED C message after rest q few =
 pub round-trip : RoundTrip
 unfolding RoundTrip checkOf rootOf
 round-trip o l set I SEED C message rest q li lc few =
-    let whole : treeSize (l .h) ≤ length (treeBytes o (l .h) I SEED ++ rest) = simp length-append (omega (arith, tree-length o (l .h) I SEED)) in
+    let whole : treeSize (l .h) ≤ length (treeBytes o (l .h) I SEED ++ rest) =
+    simp length-append (omega (arith, tree-length o (l .h) I SEED)) in
     rw (
       key-fits o l I (T o (l .h) I SEED 1) li set (node-length o (l .h) I SEED 1),
       sig-fits o l I SEED C message (treeBytes o (l .h) I SEED ++ rest) q lc few whole set,
@@ -177,21 +180,68 @@ round-trip o l set I SEED C message rest q li lc few =
 pub set-fits : Set LMOTS_SHA256_N32_W4 LMS_SHA256_M32_H10
 set-fits = record { ots-fits = omega arith; type-fits = omega arith; numbers-fit = omega arith }
 
--- a buffer that a tree was generated into begins with the tree
-generated-tree : (o : Ots) (l : Lms) (I SEED buffer : List ℕ) → generateCode l buffer ≡ 0
-    → generated o l I SEED buffer ≡ treeBytes o (l .h) I SEED ++ drop (treeSize (l .h)) buffer
-unfolding generated generateCode
-generated-tree o l I SEED buffer e =
-    cases-lt (length buffer) (treeSize (l .h))
-    (λ lt. let z : _≡_ {A = ℕ} 21 0 = rw (lt-leb (treeSize (l .h)) (length buffer) lt) at e in absurd (omega arith))
-    (λ le.
-    let n : 0 + length (treeBytes o (l .h) I SEED) ≡ treeSize (l .h) = omega (arith, tree-length o (l .h) I SEED) in
-    rw (le-leb (treeSize (l .h)) (length buffer) le) (written-fits buffer 0 (treeBytes o (l .h) I SEED) (omega arith) ∙ rw n))
+-- what was written to the front of a buffer stands there
+front-written : (d s : List ℕ) (n : ℕ) → length s ≡ n → n ≤ length d → take n (written d 0 s) ≡ s
+front-written d s n e h = ap (take n) (written-fits d 0 s (omega arith)) ∙ take-at s (drop (0 + length s) d) n e
+
+-- the calls on buffers that are long enough
+module _ (o : Ots) (l : Lms) (I SEED : List ℕ) where
+  module _ (tree : List ℕ) (room : treeSize (l .h) ≤ length tree) where
+    grown : generateCode l tree ≡ 0
+    unfolding generateCode
+    grown = rw (le-leb (treeSize (l .h)) (length tree) room)
+
+    -- the buffer begins with the tree
+    generated-tree : generated o l I SEED tree ≡ treeBytes o (l .h) I SEED ++ drop (treeSize (l .h)) tree
+    unfolding generated
+    generated-tree =
+        let n : 0 + length (treeBytes o (l .h) I SEED) ≡ treeSize (l .h) = omega (arith, tree-length o (l .h) I SEED) in
+        rw grown (written-fits tree 0 (treeBytes o (l .h) I SEED) (omega arith) ∙ rw n)
+
+  module _ (tree : List ℕ) (whole : treeSize (l .h) ≤ length tree) where
+    module _ (li : length I ≡ 16) (key : List ℕ) (room : 56 ≤ length key) where
+      key-answered : publicKeyCode l tree key ≡ 0
+      unfolding publicKeyCode
+      key-answered = rw (le-leb (treeSize (l .h)) (length tree) whole, le-leb 56 (length key) room)
+
+      key-in-place : take 56 (publicKeyWritten o l I tree key) ≡ publicKey o l I (nodeAt tree 1)
+      unfolding publicKeyWritten
+      key-in-place =
+          let one : 1 < 2 ^ suc (l .h) = omega (arith, pow-suc 2 (l .h), pow-pos (l .h)) in
+          let root : length (nodeAt tree 1) ≡ 32 = node-whole tree (l .h) 1 whole (omega arith) one in
+          rw key-answered (front-written key (publicKey o l I (nodeAt tree 1)) 56 (key-length o l I (nodeAt tree 1) li root) room)
+
+    module _ (C message place : List ℕ) (q : ℕ) (lc : length C ≡ 32) (few : q < 2 ^ l .h) (room : signatureSize o l ≤ length place) where
+      sign-answered : signCode o l q tree place ≡ 0
+      unfolding signCode
+      sign-answered =
+          rw (le-leb (treeSize (l .h)) (length tree) whole, le-leb (signatureSize o l) (length place) room, lt-ltb q (2 ^ l .h) few)
+
+      signature-in-place : take (signatureSize o l) (signed o l I SEED q C message tree place) ≡ signature o l I SEED q C message tree
+      unfolding signed
+      signature-in-place =
+          rw sign-answered
+          (front-written place (signature o l I SEED q C message tree) (signatureSize o l)
+          (sig-length o l I SEED C message tree q lc few whole) room)
 
 pub calls-round-trip : CallsRoundTrip
 unfolding CallsRoundTrip RoundTrip
-calls-round-trip o l set I SEED C message buffer q li lc few e =
+calls-round-trip o l set I SEED C message tree pk place q li lc few room pk-room place-room =
+    let t : List ℕ = generated o l I SEED tree in
+    let e : t ≡ treeBytes o (l .h) I SEED ++ drop (treeSize (l .h)) tree = generated-tree o l I SEED tree room in
+    let n : length t ≡ length (treeBytes o (l .h) I SEED) + length (drop (treeSize (l .h)) tree) =
+    ap length e ∙ length-append (treeBytes o (l .h) I SEED) (drop (treeSize (l .h)) tree) in
+    let whole : treeSize (l .h) ≤ length t = omega (arith, tree-length o (l .h) I SEED) in
     let one : 1 < 2 ^ suc (l .h) = omega (arith, pow-suc 2 (l .h), pow-pos (l .h)) in
-    let tree = generated-tree o l I SEED buffer e in
-    rw (tree, node-in-tree o (l .h) I SEED 1 (drop (treeSize (l .h)) buffer) (omega arith) one)
-    (round-trip o l set I SEED C message (drop (treeSize (l .h)) buffer) q li lc few)
+    let accepted : checkOf o l (publicKey o l I (nodeAt t 1)) message (signature o l I SEED q C message t) ≡ Checked.Number q =
+    rw (e, node-in-tree o (l .h) I SEED 1 (drop (treeSize (l .h)) tree) (omega arith) one)
+    (round-trip o l set I SEED C message (drop (treeSize (l .h)) tree) q li lc few) in (
+      grown o l I SEED tree room,
+      key-answered o l I SEED t whole li pk pk-room,
+      sign-answered o l I SEED t whole C message place q lc few place-room,
+      rw (
+        key-in-place o l I SEED t whole li pk pk-room,
+        signature-in-place o l I SEED t whole C message place q lc few place-room,
+      )
+          accepted,
+    )

@@ -1,7 +1,7 @@
 // RFC 8554, section 5.4.2: the candidate root of a signature, Algorithm 6a.
 ghost use mathlib.Core.Path.{_≡_};
 ghost use mathlib.Core.Bool.{true};
-ghost use Prim.Native.Nat.{_+_, _*_, _^_, _≤_, _<_};
+ghost use Prim.Native.Nat.{_≤_};
 ghost use lib.ListN.{length, take, drop};
 ghost use Rattle.lms.specs.Types.{OtsRow};
 ghost use Rattle.lms.specs.Check.{above as aboveOf, climb as climbOf, keyFits, signatureFits, rootOf, checkOf};

@@ -2,7 +2,7 @@
 -- FIPS speaks of messages shorter than 2^64 bits. For a message of 2^61 bytes or more, where FIPS is silent,
 -- the definition here writes the length in bits modulo 2^64.
 use mathlib.Core.List.{List, [], _∷_, _++_}
-use Prim.Native.Nat.{ℕ, zero, suc, _+_, _-_, _*_, _/_, _%_}
+use Prim.Native.Nat.{ℕ, zero, suc, _-_, _*_, _/_, _%_}
 use lib.ListN.{length, drop, replicate}
 use Rattle.sha256.specs.Bytes.{be, numberAt}
 use Rattle.sha256.specs.Constants.{H0}
