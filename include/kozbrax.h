@@ -1,7 +1,7 @@
 /* Kozbrax: the functions of the static library that `rt staticlib kozbrax` writes.
 
-   A slice is passed as a pointer and then its length, in bytes where nothing else is said. The caller sees to it that no pointer is NULL, also where
-   the length is 0, that it reaches as many bytes as the length says, that a buffer which is written overlaps no other
+   A slice is passed as a pointer and then its length, in bytes where nothing else is said. The caller sees to it that no pointer is
+   NULL, also where the length is 0, that it reaches as many bytes as the length says, that a buffer which is written overlaps no other
    argument, and that nothing else writes what is lent during the call. No function keeps a pointer or allocates. */
 #ifndef KOZBRAX_H
 #define KOZBRAX_H
@@ -52,7 +52,7 @@ uint32_t kozbrax_owner(uint32_t servers, uint32_t p, uint32_t l);
 uint32_t kozbrax_wait(uint32_t servers, uint32_t p);
 
 /* The nodes of the cover from v to w, v from 0 and w from max(v, 1) to 1,048,576: each as p (4 bytes, big-endian) and l (1 byte).
-   Returns the count of nodes, or 4294967295 where v and w are out of range or nodes_len is below 5 bytes a node.
+   Returns the count of nodes, or 4294967295 where v and w are out of range or nodes_len is below 5 bytes a node: 21 is also a count.
    Leaves, where it returns a count: the nodes in the first bytes, and the bytes past them as they were. Else: nodes as it was. */
 uint32_t kozbrax_cover(uint32_t v, uint32_t w, uint8_t *nodes, size_t nodes_len);
 
@@ -70,18 +70,19 @@ uint32_t kozbrax_digest(const uint8_t *leaves, size_t leaves_len, uint8_t *out, 
    Returns 0, or 21 where the lengths differ. Leaves, on 21: standing as it was. */
 uint32_t kozbrax_board(const uint32_t *targets, size_t targets_len, uint32_t *standing, size_t standing_len);
 
-/* What a call of the server gives: its code, the length of the answer (0 where none is written), and the store's used length after it. */
+/* What a call of the server gives: its code, the answer's length (0 where none is written), and the store's used length after it. */
 typedef struct {
   uint32_t code;
   uint32_t answer;
   uint64_t used;
 } kozbrax_served;
 
-/* One call of server own, of `servers`: takes in a request of any bytes. log has 16 bytes; users are the users' public keys, 56 bytes each.
+/* One call of server own, of `servers`: takes in a request of any bytes. log has 16 bytes; users are the public keys, 56 bytes each.
    head has 39 bytes, big-endian: p (4 bytes at 0), l (1 at 4), author (2 at 5), digest (32 at 7); all zero at first. The first `used`
    bytes of store are its records; at first there are none. The caller keeps head, store and `used` from call to call.
    Returns the code: 22 where `servers` is not 2 to 16, own not 1 to `servers`, users_len not 56 to 3,584 in steps of 56, the head out
-   of range or the used part not whole stored records; else 21 where answer_len is below 2,552; else 0 to 9, as the answer says.
+   of range, `used` above store_len or the used part not whole stored records; else 21 where answer_len is below 2,552; else 0 to 9, as
+   the answer says.
    Leaves, on 0: the request's effect on head or on store and `used`, and the answer in the first bytes. On 1 to 9: the answer, and head
    and store as they were. On 21 and 22: everything as it was. The bytes past the answer, and past the used part, stay as they were. */
 kozbrax_served kozbrax_server(uint32_t servers, uint32_t own, const uint8_t *log, const uint8_t *users, size_t users_len, uint8_t *head,
@@ -101,12 +102,13 @@ kozbrax_served kozbrax_server(uint32_t servers, uint32_t own, const uint8_t *log
    hashes (1,248 bytes) and held (1,026): the call's memory, with any contents at its start
 
    log has 16 bytes; users are the users' public keys, 56 bytes each. own is the user's number, from 1. Every function returns 22 where
-   `servers` is not 2 to 16, users_len not 56 to 3,584 in steps of 56, own not a number of the users, or what is kept out of range: the version
-   above 1,048,576, or equal to it with a write open, the signature number above 1,024, opened or signed above 1. */
+   `servers` is not 2 to 16, users_len not 56 to 3,584 in steps of 56, own not a number of the users, or what is kept out of range: the
+   version above 1,048,576, or equal to it with a write open, the signature number above 1,024, opened or signed above 1. */
 
-/* What a start, or an answer taken in, gives: the code; the server's code for 11, else 0; the server to ask and the length of the request in
-   the request buffer, 0 where the call has ended; 1 or 0 for whether it has; and the author and the entry's length of a Read that has ended
-   with 0, else 0. */
+/* What a start, or an answer taken in, gives: the code; the server's code for 11, else 0; the server to ask and the length of the
+   request in the request buffer, 0 where the call has ended; ended, 1 where the call has ended and else 0; and the author and the
+   entry's length of a Read that has ended with 0, else 0. ended is 1 after a refusal too: a call ends there (document 01), but nothing
+   has changed, and the caller may go on with it all the same. */
 typedef struct {
   uint32_t code;
   uint32_t refusal;
@@ -140,11 +142,24 @@ kozbrax_asked kozbrax_read_start(uint32_t servers, uint32_t own, const uint8_t *
                                  const uint8_t *entry, size_t entry_len);
 
 /* Takes in an answer of any bytes to the call's last request. id (16 bytes), seed (32) and tree are the key's; only a Write reads them.
-   Returns the code: 0 with the next request, or at the call's end; else a code of document 01's table. A call whose kind is not 1 to 3, or a
-   Write whose opened is above 1, has no request out: 22, else 21 where request_len is below 2,566, else 10.
-   Leaves, on 0: the call's next state in call, what is kept in kept, path and signature, the next request, where there is one, in the first
-   bytes of request, and the entry of a Read that has ended in the first bytes of entry. Else: all of these as they were; hashes and held
-   may have the answer's bytes after 15, 16, 19, 20 and 23. The bytes past the request and past the entry stay as they were. */
+   Returns the code: 0 with the next request, or at the call's end; else the first that holds, by what call says:
+     every call: 22; 21 where request_len is below 2,566
+     Update: 18 where a write is open; 10 where this is no answer to the request that is out, or none is out; 11 where the server refused;
+       for a Status 10 where the server cannot have that head, for the last one 12 where the greatest and the least label are `servers` or
+       more apart, and 13 where the greatest label's position is below the version; for the Record 14 where its author is not listed or
+       the signature fails; for the last node 15 where the version is above 0 and the cover does not give the own digest, and 16 where it
+       does not give the Record's
+     Write that is not open: its Update's codes in that order; where the Update ends, 20 where it has come to position 1,048,576, and 19
+       where the entry strikes position 0 or one above the Update's
+     Write that is open: 21 also where tree_len is below 65,504; 10; 11; 17 where the Commit comes next, it is not signed yet and the
+       signature number is 1,024
+     Read: 21 also where entry_len is below 1,024; 24 where its position is not 1 to the version; 10; 11; for the last answer 23 where
+       author, entry and nodes do not give the own digest
+     no call, the kind not 1 to 3 or a Write's opened above 1: 10
+   Leaves, on 0: the call's next state in call, hashes and held, what is kept in kept, path and signature, the next request, where there
+   is one, in the first bytes of request, and the entry of a Read that has ended in the first bytes of entry; the bytes past the request
+   and past the entry stay as they were. Else: everything as it was, and the same call may take another answer to its last request, which
+   may have to be sent again. */
 kozbrax_asked kozbrax_take(uint32_t servers, uint32_t own, const uint8_t *log, const uint8_t *users, size_t users_len, const uint8_t *id,
                            const uint8_t *seed, const uint8_t *tree, size_t tree_len, const uint8_t *answer, size_t answer_len,
                            uint8_t *kept, uint8_t *path, uint8_t *signature, uint8_t *call, uint8_t *hashes, uint8_t *held,
@@ -156,8 +171,8 @@ typedef struct {
   uint32_t settled;
 } kozbrax_settled_answer;
 
-/* Whether the user's own operation at a position is settled. Returns the code: 22; else 24 where the position is not 1 to the version; else
-   0. Writes nothing. */
+/* Whether the user's own operation at a position is settled. Returns the code: 22; else 24 where the position is not 1 to the version;
+   else 0. Writes nothing. */
 kozbrax_settled_answer kozbrax_settled(uint32_t servers, uint32_t own, const uint8_t *log, const uint8_t *users, size_t users_len,
                                        const uint8_t *kept, uint32_t position);
 

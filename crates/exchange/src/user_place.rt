@@ -17,7 +17,7 @@ pub const OPENED: usize = 40;
 
 pub const SIGNED: usize = 41;
 
-const CALL: usize = 42;
+pub const CALL: usize = 42;
 
 // The last step: which start came last (1 Update, 2 Write, 3 Read), the code and the server's, whether the call has ended, the author and
 // the length of the entry that a Read found; and the server that was asked last, with the length of the request.
@@ -40,7 +40,7 @@ pub const PATH: usize = 150;
 
 pub const SIGNATURE: usize = 822;
 
-const HASHES: usize = 3330;
+pub const HASHES: usize = 3330;
 
 const HELD: usize = 4578;
 

@@ -5,3 +5,4 @@ pub mod Inverses
 pub mod Narrowed
 pub mod UserCalls
 pub mod UserAnswers
+pub mod Refusals

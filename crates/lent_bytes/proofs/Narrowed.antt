@@ -6,7 +6,7 @@ use Prim.Native.Nat.{ℕ, _≤_, min}
 use native.Mathlib.Omega.{arith}
 use lib.Dec.{leb}
 use borrow.Author.Tests.{leb-true}
-use Rattle.tree.proofs.Cases.{cases-le, and-true, untrue}
+use Rattle.tree.proofs.Cases.{by-bool, cases-le, and-true, untrue}
 use Rattle.tree.proofs.Groups.{group-fits}
 use Rattle.tree.specs.Setup.{Settings, settings, groupFits, userCount, listed, firstCode}
 use Rattle.user.specs.declared.call.Kept.{Kept}
@@ -14,9 +14,9 @@ use Rattle.user_update.specs.declared.call.Update.{Update}
 use Rattle.user_write.specs.declared.call.Write.{Write}
 use Rattle.user_read.specs.declared.call.Read.{Read}
 use Rattle.user.specs.Asking.{settingsFit, setupChecks, refused}
-use Rattle.user_update.specs.Update.{freshUpdate, updateSetup, updateEarly, updateCollected, updateRefused, updateStarted, updateTaken}
-use Rattle.user_write.specs.Write.{Key, WriteLent, writeStartChecks, freshWrite, writeChecks, writeRefused, writeWaits, writeStarted, writeUpdates, writeGoes, writeTaken}
-use Rattle.user_read.specs.Read.{ReadLent, readMemory, readChecks, readEarly, readCollected, freshRead, readRefused, readStarted, readTaken}
+use Rattle.user_update.specs.Update.{noUpdate, updateSetup, updateEarly, updateRefused, updateStarted, updateTaken}
+use Rattle.user_write.specs.Write.{Key, WriteLent, writeStartChecks, noWrite, writeChecks, writeRefused, writeWaits, writeStarted, writeUpdates, writeGoes, writeTaken}
+use Rattle.user_read.specs.Read.{ReadLent, readMemory, readChecks, readEarly, noRead, readRefused, readStarted, readTaken}
 use Rattle.user.specs.Settled.{settledCode, settledGiven}
 use Rattle.user_write.specs.Writing.{lentOf}
 use Rattle.lent_bytes.specs.User.{keptOf, updateOf, writeOf, readOf, UserLent, strayCode, updateAnswered, writeAnswered, readAnswered, strayAnswered, userAnswered}
@@ -54,23 +54,23 @@ unfolding settledGiven settledCode firstCode
 settled-unfit k p s e = rw e
 
 pub update-start-unfit : (k : Kept) (hashes buffer : List ℕ) (s : Settings) → settingsFit s ≡ false
-    → updateStarted s k hashes buffer ≡ updateRefused 22 [] k freshUpdate hashes buffer
+    → updateStarted s k hashes buffer ≡ updateRefused 22 [] k noUpdate hashes buffer
 unfolding updateStarted updateSetup setupChecks firstCode
 update-start-unfit k hashes buffer s e = rw e
 
 pub write-start-unfit : (k : Kept) (m : WriteLent) (entry randomizer : List ℕ) (key : Key) (s : Settings) → settingsFit s ≡ false
-    → writeStarted s k m entry randomizer key ≡ writeRefused 22 [] k (freshWrite k entry randomizer) m
+    → writeStarted s k m entry randomizer key ≡ writeRefused 22 [] k noWrite m
 unfolding writeStarted writeStartChecks setupChecks firstCode
 write-start-unfit k m entry randomizer key s e = rw e
 
 pub read-start-unfit : (k : Kept) (m : ReadLent) (i : ℕ) (s : Settings) → settingsFit s ≡ false
-    → readStarted s k m i ≡ readRefused 22 [] (freshRead i) m
+    → readStarted s k m i ≡ readRefused 22 [] (noRead i) m
 unfolding readStarted readChecks setupChecks firstCode
 read-start-unfit k m i s e = rw e
 
 pub update-unfit : (k : Kept) (u : Update) (hashes buffer a : List ℕ) (s : Settings) → settingsFit s ≡ false
     → updateTaken s k u hashes buffer a ≡ updateRefused 22 a k u hashes buffer
-unfolding updateTaken updateCollected updateEarly updateSetup setupChecks firstCode
+unfolding updateTaken updateEarly updateSetup setupChecks firstCode
 update-unfit k u hashes buffer a s e = rw e
 
 goes-unfit : (k : Kept) (w : Write) (m : WriteLent) (key : Key) (a : List ℕ) (s : Settings) → settingsFit s ≡ false
@@ -79,17 +79,19 @@ unfolding writeGoes writeChecks setupChecks firstCode
 goes-unfit k w m key a s e = rw e
 
 updates-unfit : (k : Kept) (w : Write) (m : WriteLent) (a : List ℕ) (s : Settings) → settingsFit s ≡ false
-    → writeUpdates s k w m a ≡ writeWaits k w m (updateRefused 22 a k (w .update) (m .hashes) (m .request))
-unfolding writeUpdates updateRefused refused
+    → writeUpdates s k w m a ≡ writeRefused 22 a k w m
+unfolding writeUpdates writeWaits writeRefused updateRefused refused
 updates-unfit k w m a s e = rw (update-unfit k (w .update) (m .hashes) (m .request) a s e)
 
 pub write-unfit : (k : Kept) (w : Write) (m : WriteLent) (key : Key) (a : List ℕ) (s : Settings) → settingsFit s ≡ false
-    → writeTaken s k w m key a ≡ cond (w .opened) (writeRefused 22 a k w m) (writeWaits k w m (updateRefused 22 a k (w .update) (m .hashes) (m .request)))
+    → writeTaken s k w m key a ≡ writeRefused 22 a k w m
 unfolding writeTaken
-write-unfit k w m key a s e = rw (goes-unfit k w m key a s e, updates-unfit k w m a s e)
+write-unfit k w m key a s e =
+    by-bool (λ b. cond b (writeGoes s k w m key a) (writeUpdates s k w m a) ≡ writeRefused 22 a k w m) (w .opened) (λ _. goes-unfit k w m key a s e)
+    (λ _. updates-unfit k w m a s e)
 
 pub read-unfit : (k : Kept) (r : Read) (m : ReadLent) (a : List ℕ) (s : Settings) → settingsFit s ≡ false → readTaken s k r m a ≡ readRefused 22 a r m
-unfolding readTaken readCollected readEarly readChecks setupChecks firstCode
+unfolding readTaken readEarly readChecks setupChecks firstCode
 read-unfit k r m a s e = rw e
 
 stray-unfit : (kept request : List ℕ) (s : Settings) → settingsFit s ≡ false → strayCode s kept request ≡ 22

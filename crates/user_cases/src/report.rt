@@ -29,14 +29,16 @@ pub fn step(place: &[u8]) {
     byte(b" signed ", place, user_place::SIGNED);
 }
 
-// The last step, the kept digest, and the SHA-256 of the path, the signature, the request buffer and the entry buffer; of a Read the
-// author that it found and the length of the entry too.
+// The last step, the kept digest, and the SHA-256 of the path, the signature, the call, the call's memory (hashes and held entry), the
+// request buffer and the entry buffer; of a Read the author that it found and the length of the entry too.
 pub fn state(place: &[u8]) {
     step(place);
     let digest = digest::piece(bytes::from(place, user_place::DIGEST), 0);
     print::figures(b" digest ", digest);
     hash(b" path ", place, user_place::PATH, 672);
     hash(b" signature ", place, user_place::SIGNATURE, 2508);
+    hash(b" call ", place, user_place::CALL, 82);
+    hash(b" memory ", place, user_place::HASHES, 2274);
     hash(b" request ", place, user_place::REQUEST, 2566);
     hash(b" entry ", place, user_place::ENTRY, 1024);
     if bytes::byte_at(place, user_place::KIND) == 3 {
