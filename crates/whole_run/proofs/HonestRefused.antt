@@ -96,7 +96,8 @@ other-code x (c ∷ cs) n d e =
     by-bool (λ b. cond b (firstCode cs) (c .code) ≡ x → ⊥) (c .passes) (λ _. other-code x cs n (d .1)) (λ _. d .0) e
 
 -- an open write is refused by others
-open-codes : (s : Settings) (k : Kept) (w : Write) (m : WriteLent) (key : Key) (a : List ℕ) → AtOpening (firstCode (writeChecks s k w m key a)) → ⊥
+open-codes : (s : Settings) (k : Kept) (w : Write) (m : WriteLent) (key : Key) (a : List ℕ)
+    → AtOpening (firstCode (writeChecks s k w m key a)) → ⊥
 unfolding writeChecks setupChecks answerChecks
 open-codes s k w m key a (inl e) =
     other-code 20 _ (λ z. omega arith) (omega arith) e
@@ -142,8 +143,8 @@ module _ (s : Settings) (named : length (s .log) ≡ 16) (before : User) where
   Stage u = Waits before u ⊎ Past (u .call)
 
   -- its Update hands out the next request
-  asks-on : (u : User) (m : Lent) (w : Write) (o : WriteLent) (x : Update) (hashes : List ℕ) → u .kept ≡ before .kept → o .path ≡ before .path
-      → o .signature ≡ before .signature → w .opened ≡ false → 2566 ≤ length (o .request)
+  asks-on : (u : User) (m : Lent) (w : Write) (o : WriteLent) (x : Update) (hashes : List ℕ) → u .kept ≡ before .kept
+      → o .path ≡ before .path → o .signature ≡ before .signature → w .opened ≡ false → 2566 ≤ length (o .request)
       → Waits before (afterWrite u m (writeWaits (u .kept) w o (askingLeft s (u .kept) x hashes (o .request))))
   unfolding afterWrite writeWaits asking sentBy sentAfter returned
   asks-on u m w o x hashes kept path signature shut room =
@@ -184,7 +185,8 @@ module _ (s : Settings) (named : length (s .log) ≡ 16) (before : User) where
       (λ _.
       by-updating s k w m a P (λ code n z. absurd (n z)) (λ t e. by-opening s k w m _ a P (λ n z. absurd (n z)) (λ h z. inr refl))
       (λ t e z.
-      inl (asks-on u (u .lent) w m (updateNext (s .servers) (w .update) (answerBody a)) (updateHashes (s .servers) (w .update) (answerBody a) (m .hashes))
+      inl (asks-on u (u .lent) w m (updateNext (s .servers) (w .update) (answerBody a))
+      (updateHashes (s .servers) (w .update) (answerBody a) (m .hashes))
       (o .kept) (o .path) (o .signature) (o .shut) (leb-true 2566 (length (m .request)) (t .room)))))
 
   takes : (u : User) (a : List ℕ) → Waits before u → takenStep s u a (u .call) .code ≡ 0 → Stage (taking s u a (u .call) .user)
@@ -203,7 +205,8 @@ module _ (c : Setup) (range : InRange c) (x : Network) (a : ℕ) where
   pull-leaves v quiet s =
       let q = v .users a .sent in
       let y = v .servers (q .server) in
-      let p = pull-changes-nothing (settingsIn c (q .server)) (y .head) (y .store) (y .used) (q .bytes) (c .answers (q .server)) (omega arith) in
+      let own = settingsIn c (q .server) in
+      let p = pull-changes-nothing own (y .head) (y .store) (y .used) (q .bytes) (c .answers (q .server)) (omega arith) in
       by-set (λ k z. z ≡ v .servers k) (v .servers) (q .server) (serverLeft (reply c v q)) s
       (server-is y _ _ _ (p .0) (p .1 .0) (p .1 .1)) (λ _. refl)
 
@@ -221,7 +224,8 @@ module _ (c : Setup) (range : InRange c) (x : Network) (a : ℕ) where
       }
 
   refused-on : (v : Network) → Pulls v → (handedBy c v a .code ≡ 0 → ⊥) → Pulls (exchanged c v a)
-  refused-on v o n = moved v o (subst (Waits (x .users a)) (sym (refused-step (settingsIn c a) (v .users a) (comesBack c v a) n)) (o .waits))
+  refused-on v o n =
+      moved v o (subst (Waits (x .users a)) (sym (refused-step (settingsIn c a) (v .users a) (comesBack c v a) n)) (o .waits))
 
   abbrev Reached : Network → Type 0
   Reached v = Pulls v ⊎ Past (v .users a .call)
@@ -260,7 +264,12 @@ module _ (c : Setup) (range : InRange c) (x : Network) (a : ℕ) where
         let e : userStep s u i .user ≡ afterWrite u m l = rw (eq-eqb (l .step .code) 0 accepted) in
         let same = set-same (x .users) a (userStep s u i .user) ∙ e in
         ⊎-elim
-        (λ w. inl (record { waits = subst (Waits u) (sym same) w; others = λ j n. set-other (x .users) a (userStep s u i .user) j n; servers = λ y. refl }))
+        (λ w.
+        inl (record {
+          waits = subst (Waits u) (sym same) w;
+          others = λ j n. set-other (x .users) a (userStep s u i .user) j n;
+          servers = λ y. refl;
+        }))
         (λ p. inr (subst (λ (y : User). Past (y .call)) (sym same) p))
         (starts-on s (range .named) u m entry randomizer shut accepted)
 
@@ -295,7 +304,8 @@ module _ (c : Setup) (range : InRange c) (x : Network) (a : ℕ) where
     opened-same : (j : ℕ) → x .users j .kept .opened ≡ v .users j .kept .opened
     opened-same j =
         cases-eq j a
-        (λ e. subst (λ k. x .users k .kept .opened ≡ v .users k .kept .opened) (sym e) (ap (λ (k : Kept). k .opened) (sym (o .waits .kept))))
+        (λ e.
+        subst (λ k. x .users k .kept .opened ≡ v .users k .kept .opened) (sym e) (ap (λ (k : Kept). k .opened) (sym (o .waits .kept))))
         (λ n. ap (λ (u : User). u .kept .opened) (sym (o .others j n)))
 
     pulls-good : Good c L w g f v

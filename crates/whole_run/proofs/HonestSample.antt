@@ -166,4 +166,5 @@ valid-later =
 pub write-after-refusal : (handed small (start .network) 1 early 0 .code ≡ 0 → ⊥) × NotRefused small later 1 first
 unfolding HonestRun AllValid Refused
 write-after-refusal =
-    (early-refused, honest-run small range zeros-first (calls 1 early 0 false ∷ []) (inr (refl, inl (refl, early-refused)), tt) 1 first valid-later .0)
+    let all : AllValid small zeros-first (calls 1 early 0 false ∷ []) = (inr (refl, inl (refl, early-refused)), tt) in
+    (early-refused, honest-run small range zeros-first (calls 1 early 0 false ∷ []) all 1 first valid-later .0)

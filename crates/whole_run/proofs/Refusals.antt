@@ -15,13 +15,22 @@ use Rattle.user_read.specs.Read.{ReadLeft, readRefused, readStarted, readTaken}
 use Rattle.user_update.proofs.UpdateAnswers.{update-refusal, update-start-refusal}
 use Rattle.user_write.proofs.WriteAnswers.{write-refusal, write-start-refusal}
 use Rattle.user_read.proofs.ReadAnswers.{read-refusal, read-start-refusal}
-use Rattle.whole_run.specs.World.{Lent, Call, idle, updating, writing, reading, User, sentBy, returned, sentAfter, viewSent, afterUpdate, afterWrite, newReads, afterRead, writeLent, readLent, Input, startUpdate, startWrite, startRead, answer, taking, unlessRefused, userStep}
+use Rattle.whole_run.specs.World.{Call, idle, updating, writing, reading, User, sentBy, returned, sentAfter, viewSent, afterUpdate, afterWrite, newReads, afterRead, writeLent, readLent, Input, startUpdate, startWrite, startRead, answer, taking, unlessRefused, userStep}
 use Rattle.whole_run.specs.Honest.{takenStep, stepOf}
 
 -- a user with another call
 abbrev withCall : User → Call → User
 withCall u c =
-    record { kept = u .kept; path = u .path; signature = u .signature; call = c; lent = u .lent; sent = u .sent; view = u .view; reads = u .reads }
+    record {
+      kept = u .kept;
+      path = u .path;
+      signature = u .signature;
+      call = c;
+      lent = u .lent;
+      sent = u .sent;
+      view = u .view;
+      reads = u .reads;
+    }
 
 -- a refused answer to each kind of call
 module _ (u : User) (code : ℕ) (a : List ℕ) (n : code ≡ 0 → ⊥) where
@@ -40,7 +49,8 @@ module _ (u : User) (code : ℕ) (a : List ℕ) (n : code ≡ 0 → ⊥) where
   read-same r e = rw (ne-eqb code 0 n) (ap (withCall u) (sym e))
 
 -- whatever call the user has
-taken-refused : (s : Settings) (u : User) (a : List ℕ) (c : Call) → u .call ≡ c → (takenStep s u a c .code ≡ 0 → ⊥) → taking s u a c .user ≡ u
+taken-refused : (s : Settings) (u : User) (a : List ℕ) (c : Call) → u .call ≡ c → (takenStep s u a c .code ≡ 0 → ⊥)
+    → taking s u a c .user ≡ u
 unfolding takenStep taking
 taken-refused s u a idle e n = refl
 taken-refused s u a (updating c) e n =
