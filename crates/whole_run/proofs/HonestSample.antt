@@ -1,4 +1,5 @@
--- The premises of the honest run can be met: the first Write of user 1 on two servers is valid, and so ends with 0 after five answers.
+-- The premises of the honest run can be met: the first Write of user 1 on two servers is valid, and so ends with 0 after five answers; and
+-- it is valid still after an Update that was refused.
 use mathlib.Core.Path.{_≡_, refl, ap, sym, _∙_, subst}
 use mathlib.Core.Logic.{inl, inr}
 use mathlib.Core.Bool.{true, false, cond, _&&_}
@@ -114,8 +115,7 @@ first-write-ends =
     let e = ap (eqb 5) five in
     (n .0, n .1 ∙ e, ap (λ k. after small (start .network) 1 first k .users 1 .kept .version) (sym five) ∙ h .1 .0)
 
--- A refused call before it changes nothing of that: an Update is refused at its start where its request buffer is too short, and the same
--- Write is valid after it.
+-- An Update whose request buffer is too short is refused at its start, and the same Write is valid after it.
 abbrev early : Input
 early = startUpdate (record { hashes = []; held = []; request = []; entry = []; key = keyOf small 1 })
 

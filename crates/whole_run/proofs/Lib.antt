@@ -62,4 +62,5 @@ pub mod HonestReadCalls
 pub mod HonestRefused
 pub mod HonestRun
 pub mod HonestTheorem
+pub mod HonestTarget
 pub mod HonestSample
