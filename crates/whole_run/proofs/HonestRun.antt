@@ -1,8 +1,9 @@
 -- The honest run: from its calls' starts, steps and late requests to every list of calls.
 use mathlib.Core.Path.{_≡_, refl, ap, sym, _∙_, subst}
-use mathlib.Core.Bool.{false, cond}
+use mathlib.Core.Logic.{_⊎_, inl, inr}
+use mathlib.Core.Bool.{Bool, false, cond}
 use mathlib.Core.List.{List, [], _∷_, _++_, append-nil}
-use Prim.Native.Nat.{ℕ, zero, suc, _-_, _<_}
+use Prim.Native.Nat.{ℕ, zero, suc, _-_, _≤_, _<_}
 use native.Mathlib.Omega.{arith}
 use lib.Dec.{eqb}
 use borrow.Author.Tests.{eq-eqb, ne-eqb}
@@ -11,7 +12,7 @@ use Rattle.tree.proofs.Cases.{cases-le, cases-eq}
 use Rattle.user.specs.declared.call.Step.{Step}
 use Rattle.whole_run.specs.World.{Input, startUpdate, startWrite, startRead, answer, returned}
 use Rattle.whole_run.specs.Honest.{Setup, Network, arrives, after, handed, Act, calls, Written, Run, wrote, doAct, Starts, runOf}
-use Rattle.whole_run.specs.HonestClaim.{ValidCall, countOf, Valid, AllValid, NotRefused, Serves}
+use Rattle.whole_run.specs.HonestClaim.{ValidCall, countOf, Valid, Refused, AllValid, NotRefused, Serves}
 use Rattle.whole_run.proofs.HonestState.{Good}
 use Rattle.whole_run.proofs.HonestCalls.{Holds, begunBy, Between, OnWay, Over, Started, Stepped, Late}
 
@@ -29,7 +30,8 @@ module _ (c : Setup)
     (late : (r : Run) (a : ℕ) (i : Input) (left : ℕ) (x : Network) → ValidCall c r a i → (o : OnWay c r a i (suc left) x)
     → Late c (o .log) (o .w) (begunBy r a i) (arrives c x a))
     (late-over : (r : Run) (a : ℕ) (i : Input) (z : Step) (x : Network) (o : Over c r a i z x)
-    → Good c (o .log) (o .w) (o .g) (begunBy r a i) (arrives c x a)) where
+    → Good c (o .log) (o .w) (o .g) (begunBy r a i) (arrives c x a))
+    (refusal : (r : Run) (x : Act) → Between c r → Refused c r x → Between c (doAct c r x)) where
   -- one valid call
   module _ (r : Run) (a : ℕ) (i : Input) (between : Between c r) (valid : ValidCall c r a i) where
     abbrev n : ℕ
@@ -72,42 +74,52 @@ module _ (c : Setup)
         subst (λ m. Over c r a i (handed c (r .network) a i m) (after c (r .network) a i m)) e
         (stepped (n - 1) (let z = started .some in omega arith) .over (let z = started .some in omega arith))
 
-  -- a call in the list leaves what the next one needs
-  acts : (r : Run) (x : Act) → Between c r → Valid c r x → Between c (doAct c r x)
-  unfolding Valid doAct NotRefused
-  acts r (calls a i k b) between v =
+  -- what call i of user a leaves, with these entries begun
+  abbrev leaves : Run → ℕ → Input → ℕ → Bool → (ℕ → List ℕ) → Run
+  leaves r a i k b begun =
+      record {
+        network = cond b (arrives c (after c (r .network) a i k) a) (after c (r .network) a i k);
+        log = r .log ++ wrote a i (handed c (r .network) a i k);
+        begun = begun;
+      }
+
+  -- a valid call in the list leaves what the next one needs
+  valid-leaves : (r : Run) (a : ℕ) (i : Input) (k : ℕ) (b : Bool) → Between c r → (v : ValidCall c r a i) → k ≤ countOf c r a i
+      → Between c (leaves r a i k b (begunBy r a i))
+  unfolding NotRefused
+  valid-leaves r a i k b between v few =
       cases-le (countOf c r a i) k
       (λ h.
-      let e : countOf c r a i ≡ k = let z = v .1 in omega arith in
-      let o = subst (λ m. Over c r a i (handed c (r .network) a i m) (after c (r .network) a i m)) e (ends r a i between (v .0)) in
+      let e : countOf c r a i ≡ k = omega arith in
+      let o = subst (λ m. Over c r a i (handed c (r .network) a i m) (after c (r .network) a i m)) e (ends r a i between v) in
       record {
         log = o .log;
         w = o .w;
         g = o .g;
         good =
-            by-bool (λ t. Good c (o .log) (o .w) (o .g) (begunBy r a i) (cond t (arrives c (after c (r .network) a i k) a) (after c (r .network) a i k))) b
+            by-bool (λ t. Good c (o .log) (o .w) (o .g) (begunBy r a i) (leaves r a i k t (begunBy r a i) .network)) b
             (λ _. late-over r a i (handed c (r .network) a i k) (after c (r .network) a i k) o) (λ _. o .good);
         holds = o .holds;
       })
       (λ h.
       let more : countOf c r a i - k ≡ suc (countOf c r a i - suc k) = omega arith in
-      let o = subst (λ n. OnWay c r a i n (after c (r .network) a i k)) more (on-way r a i between (v .0) k h) in
-      let l = late r a i (countOf c r a i - suc k) (after c (r .network) a i k) (v .0) o in
-      let t = not-refused r a i between (v .0) k (omega arith) .1 ∙ ne-eqb k (countOf c r a i) (λ z. omega arith) in
+      let o = subst (λ n. OnWay c r a i n (after c (r .network) a i k)) more (on-way r a i between v k h) in
+      let l = late r a i (countOf c r a i - suc k) (after c (r .network) a i k) v o in
+      let t = not-refused r a i between v k (omega arith) .1 ∙ ne-eqb k (countOf c r a i) (λ z. omega arith) in
       let e : r .log ++ wrote a i (handed c (r .network) a i k) ≡ r .log =
       ap (λ (y : List Written). r .log ++ y) (wrote-nothing a i (handed c (r .network) a i k) t) ∙ append-nil (r .log)
       in
-      by-bool
-      (λ t.
-      Between c
-      (record {
-        network = cond t (arrives c (after c (r .network) a i k) a) (after c (r .network) a i k);
-        log = r .log ++ wrote a i (handed c (r .network) a i k);
-        begun = begunBy r a i;
-      }))
-      b
+      by-bool (λ t. Between c (leaves r a i k t (begunBy r a i))) b
       (λ _. record { log = o .log; w = o .w; g = l .g; good = l .good; holds = subst (Holds (o .log) (o .w)) (sym e) (o .holds) })
       (λ _. record { log = o .log; w = o .w; g = o .g; good = o .good; holds = subst (Holds (o .log) (o .w)) (sym e) (o .holds) }))
+
+  -- so does every call: a valid one begins its entry, not being refused at its start
+  acts : (r : Run) (x : Act) → Between c r → Valid c r x ⊎ Refused c r x → Between c (doAct c r x)
+  unfolding Valid doAct handed
+  acts r (calls a i k b) between (inl v) =
+      let z = eq-eqb (handed c (r .network) a i 0 .code) 0 (started r a i between (v .0) .code) in
+      subst (λ t. Between c (leaves r a i k b (cond t (begunBy r a i) (r .begun)))) (sym z) (valid-leaves r a i k b between (v .0) (v .1))
+  acts r x between (inr v) = refusal r x between v
 
   module _ (b : Starts) (first : Between c (runOf c b [])) where
     all-between : (xs : List Act) → AllValid c b xs → Between c (runOf c b xs)
@@ -115,7 +127,7 @@ module _ (c : Setup)
     all-between [] v = first
     all-between (x ∷ xs) v = acts (runOf c b xs) x (all-between xs (v .1)) (v .0)
 
-    -- every valid call after every list of valid calls
+    -- every valid call after every list of calls that were valid or refused
     pub every-call : (xs : List Act) → AllValid c b xs → (a : ℕ) (i : Input) → ValidCall c (runOf c b xs) a i
         → NotRefused c (runOf c b xs) a i
         × Serves (runOf c b xs) a (after c (runOf c b xs .network) a i (countOf c (runOf c b xs) a i) .users a) i

@@ -1,22 +1,30 @@
--- The premises of the honest run can be met: the first Write of user 1 on two servers is valid, and so ends with 0 after five answers.
-use mathlib.Core.Path.{_≡_, refl, ap, sym, _∙_}
+-- The premises of the honest run can be met: the first Write of user 1 on two servers is valid, and so ends with 0 after five answers; and
+-- it is valid still after an Update that was refused.
+use mathlib.Core.Path.{_≡_, refl, ap, sym, _∙_, subst}
+use mathlib.Core.Logic.{inl, inr}
 use mathlib.Core.Bool.{true, false, cond, _&&_}
 use mathlib.Core.List.{List, [], _∷_}
-use Prim.Native.Nat.{ℕ, zero, suc, _+_, _*_, _≤_}
+use Prim.Native.Nat.{ℕ, zero, suc, _+_, _*_, _≤_, _<_}
 use native.Mathlib.Omega.{arith}
 use lib.Dec.{eqb, ltb}
 use lib.ListN.{length, replicate, length-replicate}
+use borrow.Author.Tests.{eqb-true, eqb-false, leb-true}
 use Rattle.sha256.proofs.Cases.{by-bool}
 use Rattle.tree.specs.Level.{leastFrom, reaches, lg, isFull, highestFull}
 use Rattle.tree.specs.Label.{owner}
+use Rattle.tree.specs.Setup.{Settings, firstCode}
+use Rattle.user.specs.declared.call.Kept.{Kept}
+use Rattle.user.specs.Asking.{requestRoom, refused}
+use Rattle.user.proofs.Passed.{setup-passed, by-cond}
 use Rattle.user_write.specs.Write.{entryFits, strikes, targetFits, commitNumber, writeLevel, writeAnswers}
 use Rattle.tree.proofs.Cases.{not-both}
-use Rattle.whole_run.specs.World.{Lent, Input, startWrite}
+use Rattle.whole_run.specs.World.{Lent, User, Input, startUpdate, startWrite}
 use Rattle.whole_run.specs.Runs.{newUser}
-use Rattle.whole_run.specs.Honest.{InRange, keyOf, after, handed, atFirst, Run, runOf, Starts}
-use Rattle.user_update.specs.Update.{updateAnswers}
-use Rattle.whole_run.specs.HonestClaim.{Alone, bodySize, storedTo, NewWrite, ValidInput, ValidCall, answersOf, countOf, AllValid, NotRefused, Reaches, Serves, HonestRun}
+use Rattle.whole_run.specs.Honest.{InRange, keyOf, settingsIn, steps, after, stepOf, handed, calls, wrote, doAct, atFirst, Run, runOf, Starts}
+use Rattle.user_update.specs.Update.{UpdateLeft, updateAnswers, updateRefused, updateSetup, updateStarted}
+use Rattle.whole_run.specs.HonestClaim.{Alone, bodySize, storedTo, NewWrite, ValidInput, ValidCall, answersOf, countOf, Refused, AllValid, NotRefused, Reaches, Serves, HonestRun}
 use Rattle.whole_run.specs.HonestSample.{small}
+use Rattle.whole_run.proofs.HonestRefused.{users-same}
 use Rattle.whole_run.proofs.HonestTheorem.{honest-run}
 
 -- a request stores at most a Commit and the entry's size
@@ -106,3 +114,57 @@ first-write-ends =
     let n = h .0 5 (omega (arith, five)) in
     let e = ap (eqb 5) five in
     (n .0, n .1 ∙ e, ap (λ k. after small (start .network) 1 first k .users 1 .kept .version) (sym five) ∙ h .1 .0)
+
+-- An Update whose request buffer is too short is refused at its start, and the same Write is valid after it.
+abbrev early : Input
+early = startUpdate (record { hashes = []; held = []; request = []; entry = []; key = keyOf small 1 })
+
+too-short : (s : Settings) (k : Kept) (hashes buffer : List ℕ) → length buffer < 2566 → updateStarted s k hashes buffer .step .code ≡ 0 → ⊥
+unfolding updateStarted updateSetup updateRefused refused requestRoom
+too-short s k hashes buffer short =
+    let code = firstCode (updateSetup s k buffer) in
+    by-cond (λ (l : UpdateLeft). l .step .code ≡ 0 → ⊥) (eqb code 0) _ _
+    (λ e _. let room = leb-true 2566 (length buffer) (setup-passed s k (requestRoom buffer) _ (eqb-true code 0 e) .1) in omega arith)
+    (λ e z. absurd (eqb-false code 0 e z))
+
+early-refused : handed small (start .network) 1 early 0 .code ≡ 0 → ⊥
+unfolding handed stepOf
+early-refused = too-short (settingsIn small 1) (start .network .users 1 .kept) [] [] (omega arith)
+
+abbrev later : Run
+later = runOf small zeros-first (calls 1 early 0 false ∷ [])
+
+-- every user is new still
+user-new : (a : ℕ) → later .network .users a ≡ start .network .users a
+unfolding runOf doAct after handed
+user-new a = users-same small (start .network) 1 early early-refused a
+
+shut : (a : ℕ) → later .network .users a .kept .opened ≡ false
+unfolding runOf atFirst newUser
+shut a = ap (λ (u : User). u .kept .opened) (user-new a)
+
+new-later : NewWrite small later (later .network .users 1 .kept) entry
+unfolding runOf doAct wrote after steps
+new-later =
+    record {
+      number = subst (λ (u : User). u .kept .number < 1024) (sym (user-new 1)) (new .number);
+      position = new .position;
+      target = new .target;
+      room = new .room;
+    }
+
+valid-later : ValidCall small later 1 first
+unfolding Alone ValidInput
+valid-later =
+    record {
+      one = omega arith;
+      listed = omega arith;
+      alone = λ b n. shut b;
+      input = (valid .input .0, valid .input .1, valid .input .2, valid .input .3, λ o. not-both _ o (shut 1), λ _. new-later);
+    }
+
+pub write-after-refusal : (handed small (start .network) 1 early 0 .code ≡ 0 → ⊥) × NotRefused small later 1 first
+unfolding HonestRun AllValid Refused
+write-after-refusal =
+    let all : AllValid small zeros-first (calls 1 early 0 false ∷ []) = (inr (refl, inl (refl, early-refused)), tt) in
+    (early-refused, honest-run small range zeros-first (calls 1 early 0 false ∷ []) all 1 first valid-later .0)

@@ -25,6 +25,7 @@ use Rattle.whole_run.proofs.HonestWriteCalls.{updating-step, updating-l
 use Rattle.whole_run.proofs.HonestOpenCalls.{open-late}
 use Rattle.whole_run.proofs.HonestOpenSteps.{open-step}
 use Rattle.whole_run.proofs.HonestReadCalls.{read-step, read-late}
+use Rattle.whole_run.proofs.HonestRefused.{refused-leaves}
 use Rattle.whole_run.proofs.HonestRun.{every-call}
 
 -- nothing is written yet
@@ -106,4 +107,5 @@ module _ (c : Setup) (range : InRange c) where
 pub honest-run : HonestRun
 unfolding HonestRun
 honest-run c range b xs valid a i call =
-    every-call c (start c range) (step c range) (late c range) (λ r a i z x o. late-over c r a i z x o) b (first-between c range b) xs valid a i call
+    every-call c (start c range) (step c range) (late c range) (λ r a i z x o. late-over c r a i z x o)
+    (refused-leaves c range) b (first-between c range b) xs valid a i call

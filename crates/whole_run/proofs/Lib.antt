@@ -15,6 +15,8 @@ pub mod Steps
 pub mod Fork
 -- contracts and runs use the same definitions
 pub mod Contracts
+-- a refused step leaves all as it was
+pub mod Refusals
 -- the honest run: what holds between its steps, and laws of its log, of one state changed, of labels and of keys
 pub mod HonestState
 pub mod HonestLog
@@ -57,6 +59,8 @@ pub mod HonestWriteCalls
 pub mod HonestOpenCalls
 pub mod HonestOpenSteps
 pub mod HonestReadCalls
+pub mod HonestRefused
 pub mod HonestRun
 pub mod HonestTheorem
+pub mod HonestTarget
 pub mod HonestSample
