@@ -4,7 +4,6 @@ use mathlib.Core.Bool.{Bool, true, cond}
 use mathlib.Core.List.{List, [], _++_}
 use Prim.Native.Nat.{ℕ, suc, _-_, _≤_, _<_}
 use native.Mathlib.Omega.{arith}
-use lib.ListN.{replicate}
 use Rattle.tree.specs.Label.{label}
 use Rattle.tree.specs.Expr.{entryText}
 use Rattle.tree.specs.Message.{stored}
