@@ -374,3 +374,22 @@ pub fn settled(settings: &Settings, kept: &[u8; KEPT], position: u32) -> Settled
         )
     }
 }
+
+/// Functions of an earlier library, as build.rs renames them.
+#[cfg(before)]
+pub mod before {
+    extern "C" {
+        fn before_first_label(p: u32) -> u32;
+        fn before_owner(servers: u32, p: u32, l: u32) -> u32;
+    }
+
+    pub fn first_label(p: u32) -> u32 {
+        // SAFETY: numbers by value, and no `requires`.
+        unsafe { before_first_label(p) }
+    }
+
+    pub fn owner(servers: u32, p: u32, l: u32) -> u32 {
+        // SAFETY: as for `first_label`.
+        unsafe { before_owner(servers, p, l) }
+    }
+}

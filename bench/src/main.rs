@@ -2,6 +2,8 @@
 mod hash;
 mod library;
 mod lms;
+#[cfg(before)]
+mod map;
 mod plain;
 mod plain_lms;
 mod plain_server;
@@ -19,6 +21,10 @@ fn main() {
     match subject.as_str() {
         "hash" => hash::run(),
         "lms" => lms::run(),
+        #[cfg(before)]
+        "map" => map::run(),
+        #[cfg(before)]
+        "map-once" => map::once(seed as usize),
         "server" => server::run(seed),
         "store" => store::run(seed),
         "tree" => tree::run(seed),
@@ -26,7 +32,7 @@ fn main() {
         _ => {
             eprintln!(
                 "usage: cargo run --release -- SUBJECT, where SUBJECT is: hash, lms, server [SEED], store [SEED], tree [SEED], \
-                 user [SEED]"
+                 user [SEED]; or map, if it was built with KOZBRAX_BEFORE=ARCHIVE (README.md)"
             );
             std::process::exit(2);
         }

@@ -3,6 +3,7 @@ pub mod ByteLaws
 pub mod Cases
 pub mod Levels
 pub mod Labels
+pub mod FirstLabels
 pub mod Agree
 pub mod Trees
 pub mod Tiles

@@ -2,6 +2,7 @@
 // share. The bytes are passed on to the crates above.
 pub mod cover;
 pub mod digest;
+pub mod first_labels;
 pub mod label;
 pub mod message;
 pub mod setup;
