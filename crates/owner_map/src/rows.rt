@@ -1,10 +1,13 @@
 // The rows of the table of paths, laid into lent bytes.
 ghost use mathlib.Core.Path.{_≡_};
+ghost use mathlib.Core.Bool.{true};
 ghost use Prim.Native.Nat.{_+_, _-_, _≤_};
 ghost use lib.ListN.{length};
 ghost use Rattle.sha256.specs.Bytes.{written};
+ghost use Rattle.tree.specs.Label.{areFirstLabels};
 ghost use Rattle.owner_map.specs.Table.{cell, row, fitting, piece};
 use sha256::bytes;
+use tree::first_labels;
 use tree::label;
 
 // Rows in a buffer: how many bytes they have, and the position of the last of them.
@@ -20,6 +23,7 @@ pub fn fill(out: &mut [u8], n: u8, done: u32, last: u32) -> Piece
         × ((r .length ≤ length (now (out .entry)))
         × (r .done ≡ done + fitting n done (last - done) (length (now (out .entry)))))) ⌝ }
 {
+    let labels = first_labels::table();
     let mut at = 0;
     let mut p = done;
     while p < last {
@@ -30,7 +34,7 @@ pub fn fill(out: &mut [u8], n: u8, done: u32, last: u32) -> Piece
             };
         }
         p += 1;
-        at = append_row(out, at, n, p);
+        at = append_row(out, at, &labels, n, p);
     }
     Piece {
         length: at,
@@ -39,15 +43,16 @@ pub fn fill(out: &mut [u8], n: u8, done: u32, last: u32) -> Piece
 }
 
 // Puts the row of position p with n servers behind the first `at` bytes of out, and answers how many bytes are there then.
-fn append_row(out: &mut [u8], at: usize, n: u8, p: u32) -> usize
-    requires { ⌜ at + 105 ≤ length (now out) ⌝ }
+fn append_row(out: &mut [u8], at: usize, labels: &[u32; 1024], n: u8, p: u32) -> usize
+    requires { ⌜ (at + 105 ≤ length (now out)) × (areFirstLabels 1024 (now labels) ≡ true) ⌝ }
     ensures { λ r. ⌜ (now (out .exit) ≡ written (now (out .entry)) at (row n p))
         × ((r ≡ at + length (row n p)) × (r ≤ at + 105)) ⌝ }
 {
-    let leaf = label::owner(n, p, 0);
-    let root = label::owner(n, p, label::lg(p));
+    let first = label::first_label_in(labels, p);
+    let leaf = label::owner_of(n, first);
+    let root = label::owner_of(n, first + (label::lg(p) as u64));
     let a = append_number(out, at, p as u64, b' ');
-    let b = append_number(out, a, label::first_label(p), b' ');
+    let b = append_number(out, a, first, b' ');
     let c = append_number(out, b, leaf as u64, b' ');
     let d = append_number(out, c, root as u64, b' ');
     append_number(out, d, label::wait(p, n) as u64, b'\n')

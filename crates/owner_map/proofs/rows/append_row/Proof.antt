@@ -1,22 +1,32 @@
+use native.Mathlib.Omega.{arith}
+use Rattle.tree.proofs.Labels.{label-fits}
 use Rattle.owner_map.proofs.Pieces.{row-laid}
 use borrow.Author.Needs.{needs}
 use Rattle.owner_map.proofs.rows.append_row.Statement.{statement}
 use Rattle.owner_map.proofs.rows.append_row.Tie as tie
 
-owner-requires : tie.Need-owner-requires
-owner-requires c κs = search needs
+first-label-in-requires : tie.Need-first-label-in-requires
+first-label-in-requires c κs = search needs
+
+owner-of-requires : tie.Need-owner-of-requires
+owner-of-requires c κs = search needs
 
 lg-requires : tie.Need-lg-requires
 lg-requires c κs = search needs
 
-owner-requires-2 : tie.Need-owner-requires-2
-owner-requires-2 c κs = search needs
+cast-owner-of : tie.Need-cast-owner-of
+cast-owner-of c = search needs
+
+add-owner-of : tie.Need-add-owner-of
+add-owner-of c =
+    let p = c .before .before .before .before .args .p in
+    omega (arith, label-fits p (omega arith), c .before .before .first-label-in .ensures)
+
+owner-of-requires-2 : tie.Need-owner-of-requires-2
+owner-of-requires-2 c κs = search needs
 
 append-number-requires : tie.Need-append-number-requires
 append-number-requires c κs = search needs
-
-first-label-requires : tie.Need-first-label-requires
-first-label-requires c κs = search needs
 
 append-number-requires-2 : tie.Need-append-number-requires-2
 append-number-requires-2 c κs = search needs
@@ -50,29 +60,30 @@ returns c =
     let c8 = c .before .before .before .before .before .before .before .before in
     let c16 = c8 .before .before .before .before .before .before .before .before in
     let c24 = c16 .before .before .before .before .before .before .before .before in
-    let pre = c24 .before .before .pre in
-    let owner = c24 .owner .ensures in
-    let lg = c16 .before .before .before .before .before .before .before .lg .ensures in
-    let owner2 = c16 .before .before .before .before .before .before .owner2 .ensures in
-    let append-number = c16 .before .before .before .before .append-number .ensures in
-    let first-label = c16 .first-label .ensures in
-    let append-number2 = c8 .before .before .before .before .before .before .before .append-number2 .ensures in
-    let append-number3 = c8 .before .before .before .append-number3 .ensures in
-    let append-number4 = c .before .before .before .before .before .before .before .append-number4 .ensures in
+    let pre = c24 .before .before .pre .0 in
+    let first = c24 .first-label-in .ensures in
+    let leaf = c16 .before .before .before .before .before .before .before .owner-of .ensures in
+    let level = c16 .before .before .before .before .before .before .lg .ensures in
+    let root = c16 .before .before .before .before .before .owner-of2 .ensures in
     let wait = c .before .before .before .wait .ensures in
-    let append-number5 = c .before .before .append-number5 .ensures in
-    row-laid _ _ _ _ _ _ _ _ _ _ _ _ _ _ _ _ _ _ _ pre first-label owner lg owner2 wait append-number append-number2 append-number3
-    append-number4 append-number5
+    let put = c16 .before .before .before .append-number .ensures in
+    let put2 = c8 .before .before .before .before .before .before .before .append-number2 .ensures in
+    let put3 = c8 .before .before .before .append-number3 .ensures in
+    let put4 = c .before .before .before .before .before .before .before .append-number4 .ensures in
+    let put5 = c .before .before .append-number5 .ensures in
+    row-laid _ _ _ _ _ _ _ _ _ _ _ _ _ _ _ _ _ _ _ pre first leaf level root wait put put2 put3 put4 put5
 
 pub append-row-spec : {M : Type 1} → statement M
 append-row-spec =
     tie.close
     (tie.spec
-    owner-requires
+    first-label-in-requires
+    owner-of-requires
     lg-requires
-    owner-requires-2
+    cast-owner-of
+    add-owner-of
+    owner-of-requires-2
     append-number-requires
-    first-label-requires
     append-number-requires-2
     cast-append-number
     append-number-requires-3

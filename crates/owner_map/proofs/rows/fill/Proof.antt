@@ -6,10 +6,13 @@ use Rattle.owner_map.proofs.rows.fill.Statement.{statement}
 use Rattle.owner_map.proofs.rows.fill.Tie as tie
 
 abbrev Inv-loop : tie.InvT-loop
-Inv-loop out₀ n done last at₀ p₀ out at p = Laid n done last out₀ p out at
+Inv-loop out₀ n done last labels at₀ p₀ out at p = Laid n done last out₀ p out at
 
 abbrev μ-loop : tie.MeasureT-loop
-μ-loop out₀ n done last at₀ p₀ out at p = last - p
+μ-loop out₀ n done last labels at₀ p₀ out at p = last - p
+
+table-requires : tie.Need-table-requires Inv-loop μ-loop
+table-requires c κs = search needs
 
 loop-holds : tie.Need-loop-holds Inv-loop μ-loop
 loop-holds c = laid-none _ _ _ _
@@ -34,8 +37,8 @@ loop-less c = search needs
 
 loop-again : tie.Need-loop-again Inv-loop μ-loop
 loop-again c =
-    let loop-inv = c .before .before .before .before .before .before .loop .inv in
-    let loop-test-taken = c .before .before .before .before .before .loop-test .taken in
+    let loop-inv = c .before .before .before .before .before .before .before .loop .inv in
+    let loop-test-taken = c .before .before .before .before .before .before .loop-test .taken in
     let append-row = c .before .before .append-row .ensures in
     laid-more _ _ _ _ _ _ _ loop-inv _ _ loop-test-taken (omega arith) (omega arith) append-row
 
@@ -51,6 +54,7 @@ fill-spec =
     (tie.spec
     Inv-loop
     μ-loop
+    table-requires
     loop-holds
     sub-if1
     same-length
