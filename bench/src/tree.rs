@@ -138,7 +138,8 @@ fn time_board(targets: &[u32]) {
 
 fn print_stack(random: &mut Random) {
     println!("stack of a call, in bytes, its return address included:");
-    stack_of("first label", |side| (side.first_label)(black_box(LAST_POSITION)));
+    stack_of("first label of 1024", |side| (side.first_label)(black_box(1024)));
+    stack_of("first label of 1025", |side| (side.first_label)(black_box(1025)));
     stack_of("owner", |side| (side.owner)(black_box(16), black_box(LAST_POSITION), black_box(20)));
     stack_of("wait", |side| (side.wait)(black_box(16), black_box(1)));
     let mut nodes = [0; NODE * MOST_NODES];

@@ -16,7 +16,8 @@ pub struct Piece {
     pub done: u32,
 }
 
-// Lays rows from the position behind `done` up to `last`, as long as a row is sure to fit. The bytes behind them stay as they were.
+// Lays rows from the position behind `done` up to `last`, as long as a row is sure to fit. The bytes behind them stay as they were. The table
+// of first labels is taken once for all of these rows (document 02, c).
 pub fn fill(out: &mut [u8], n: u8, done: u32, last: u32) -> Piece
     ensures { λ r. ⌜ (now (out .exit) ≡ written (now (out .entry)) 0 (piece n done last (length (now (out .entry)))))
         × ((r .length ≡ length (piece n done last (length (now (out .entry)))))
@@ -42,7 +43,8 @@ pub fn fill(out: &mut [u8], n: u8, done: u32, last: u32) -> Piece
     }
 }
 
-// Puts the row of position p with n servers behind the first `at` bytes of out, and answers how many bytes are there then.
+// Puts the row of position p with n servers behind the first `at` bytes of out, and answers how many bytes are there then. Both owners are
+// found from the first label: the leaf has it, and the digest, at the path's end, has lg(p) more.
 fn append_row(out: &mut [u8], at: usize, labels: &[u32; 1024], n: u8, p: u32) -> usize
     requires { ⌜ (at + 105 ≤ length (now out)) × (areFirstLabels 1024 (now labels) ≡ true) ⌝ }
     ensures { λ r. ⌜ (now (out .exit) ≡ written (now (out .entry)) at (row n p))
