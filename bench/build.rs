@@ -1,11 +1,11 @@
-//! Links target/staticlib/libkozbrax.a of the repository, and beside it, where KOZBRAX_BEFORE names one, an earlier archive.
+//! Links target/staticlib/libkozbrax.a of the repository; and beside it, where KOZBRAX_BEFORE names the folder target/ of an
+//! earlier one, that one's.
 use std::env;
 use std::path::{Path, PathBuf};
 use std::process::Command;
 
 /// What the subject `map` calls of the earlier archive, and the names that it gets there.
-const RENAMED: [(&str, &str); 2] =
-    [("kozbrax_first_label", "before_first_label"), ("kozbrax_owner", "before_owner")];
+const RENAMED: [(&str, &str); 2] = [("kozbrax_first_label", "before_first_label"), ("kozbrax_owner", "before_owner")];
 
 fn main() {
     let here = PathBuf::from(env::var("CARGO_MANIFEST_DIR").expect("cargo names the package's folder"));
@@ -21,7 +21,8 @@ fn main() {
     println!("cargo:rustc-check-cfg=cfg(before)");
     println!("cargo:rerun-if-env-changed=KOZBRAX_BEFORE");
     if let Ok(earlier) = env::var("KOZBRAX_BEFORE") {
-        link_earlier(Path::new(&earlier));
+        println!("cargo:rustc-env=KOZBRAX_BEFORE={earlier}");
+        link_earlier(&Path::new(&earlier).join("staticlib/libkozbrax.a"));
     }
 }
 

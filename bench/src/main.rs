@@ -32,7 +32,7 @@ fn main() {
         _ => {
             eprintln!(
                 "usage: cargo run --release -- SUBJECT, where SUBJECT is: hash, lms, server [SEED], store [SEED], tree [SEED], \
-                 user [SEED]; or map, if it was built with KOZBRAX_BEFORE=ARCHIVE (README.md)"
+                 user [SEED]; or map, if it was built with KOZBRAX_BEFORE=FOLDER (README.md)"
             );
             std::process::exit(2);
         }

@@ -1,13 +1,18 @@
-//! The owner map's work, on the library and on an earlier one in the same run: first labels, and the owners of every node of
-//! the paths, near a log's start and at the end of the longest one. Time, and instructions counted by callgrind.
+//! The owner map's work, by the library and by an earlier one in the same run: first labels, and the owners of every node of
+//! the paths, near a log's start and at the end of the longest one; and the program `paths`, which draws the map, with its
+//! earlier one. Time, and instructions counted by callgrind.
 use crate::library;
 use crate::timing::{Clock, Race};
 use std::env;
 use std::hint::black_box;
+use std::io::Write;
 use std::ops::RangeInclusive;
-use std::process::Command;
+use std::path::{Path, PathBuf};
+use std::process::{Command, Output, Stdio};
+use std::time::Instant;
 
 const ROUNDS: usize = 400;
+const RUNS_OF_A_PROGRAM: usize = 40;
 const SERVERS: u32 = 16;
 const RANGES: [RangeInclusive<u32>; 2] = [1..=1024, 1_047_553..=1_048_576];
 
@@ -39,7 +44,14 @@ fn owners(side: &Side, positions: RangeInclusive<u32>) -> u64 {
 
 pub fn run() {
     compare();
-    println!("{SERVERS} servers; microseconds of processor time, best and median of {ROUNDS} rounds, and instructions:");
+    print_functions();
+    print_programs();
+}
+
+fn print_functions() {
+    println!(
+        "{SERVERS} servers; microseconds of processor time, best and median of {ROUNDS} rounds, and instructions:"
+    );
     for (w, (name, work)) in WORKS.iter().enumerate() {
         for (r, positions) in RANGES.iter().enumerate() {
             let race = timed(*work, positions);
@@ -85,17 +97,65 @@ fn timed(work: Work, positions: &RangeInclusive<u32>) -> Race {
     race
 }
 
-/// The instructions of one work, counted by callgrind in a process of its own.
+/// The instructions of one work, in a process of its own.
 fn instructions(work: usize, range: usize, side: usize) -> String {
-    let run = Command::new("valgrind")
-        .args(["--tool=callgrind", "--callgrind-out-file=/dev/null", "--toggle-collect=counted_work"])
-        .arg(env::current_exe().expect("this program's own path"))
-        .args(["map-once", &(4 * work + 2 * range + side).to_string()])
-        .output()
-        .expect("valgrind is installed");
-    let report = String::from_utf8_lossy(&run.stderr);
+    let number = (4 * work + 2 * range + side).to_string();
+    let program = env::current_exe().expect("this program's own path");
+    collected(
+        Command::new("valgrind")
+            .args(callgrind("--toggle-collect=counted_work"))
+            .arg(program)
+            .args(["map-once", &number]),
+        "",
+    )
+}
+
+fn callgrind(option: &str) -> [&str; 3] {
+    ["--tool=callgrind", "--callgrind-out-file=/dev/null", option]
+}
+
+/// How many instructions callgrind says it has counted.
+fn collected(valgrind: &mut Command, input: &str) -> String {
+    let report = answer(valgrind.stderr(Stdio::piped()), input).stderr;
+    let report = String::from_utf8_lossy(&report);
     let count = report.lines().find_map(|line| line.split_once("Collected : "));
     count.expect("callgrind says what it collected").1.to_owned()
+}
+
+fn answer(command: &mut Command, input: &str) -> Output {
+    let mut child = command.stdin(Stdio::piped()).stdout(Stdio::piped()).spawn().expect("the program starts");
+    child.stdin.take().expect("it was piped").write_all(input.as_bytes()).expect("the program reads its input");
+    child.wait_with_output().expect("the program ends")
+}
+
+/// `paths` of the earlier repository and of this one: equal answers, time of whole processes, instructions.
+fn print_programs() {
+    let here = Path::new(env!("CARGO_MANIFEST_DIR")).join("../target");
+    let programs = [Path::new(env!("KOZBRAX_BEFORE")).to_owned(), here].map(|target| target.join("bin/paths"));
+    println!("paths; milliseconds for a whole process, best of {RUNS_OF_A_PROGRAM} in turns, and instructions:");
+    for last in [1024, 1_048_576] {
+        let input = format!("{SERVERS} {last}");
+        let best = race_of_programs(&programs, &input);
+        for s in 0..2 {
+            let count =
+                collected(Command::new("valgrind").args(callgrind("--collect-atstart=yes")).arg(&programs[s]), &input);
+            println!("  {input:>20}  {:>6}  {:>8.2}  {count:>10}", SIDES[s].name, best[s] * 1e3);
+        }
+    }
+}
+
+fn race_of_programs(programs: &[PathBuf; 2], input: &str) -> [f64; 2] {
+    let mut best = [f64::INFINITY; 2];
+    for _ in 0..RUNS_OF_A_PROGRAM {
+        let outputs = [0, 1].map(|s| {
+            let start = Instant::now();
+            let output = answer(&mut Command::new(&programs[s]), input).stdout;
+            best[s] = best[s].min(start.elapsed().as_secs_f64());
+            output
+        });
+        assert!(outputs[0] == outputs[1], "paths answers {input} alike");
+    }
+    best
 }
 
 /// The work that `instructions` counts, by its number.

@@ -16,8 +16,8 @@ pub struct Piece {
     pub done: u32,
 }
 
-// Lays rows from the position behind `done` up to `last`, as long as a row is sure to fit. The bytes behind them stay as they were. The table
-// of first labels is taken once for all of these rows (document 02, c).
+// Lays rows from the position behind `done` up to `last`, as long as a row is sure to fit. The bytes behind them stay as they were. The
+// table of first labels is taken once for all of these rows (document 02, c).
 pub fn fill(out: &mut [u8], n: u8, done: u32, last: u32) -> Piece
     ensures { λ r. ⌜ (now (out .exit) ≡ written (now (out .entry)) 0 (piece n done last (length (now (out .entry)))))
         × ((r .length ≡ length (piece n done last (length (now (out .entry)))))
