@@ -82,7 +82,11 @@ pub fn run(seed: u64) {
     for count in [1024, 100_000] {
         time_digest(&random.bytes(HASH * count));
     }
-    time_board(&sweeps::targets(random, 100_000));
+    for count in [1024, 16_384, 131_072, LAST_POSITION as usize] {
+        time_board("random", &sweeps::targets(random, count));
+    }
+    time_board("insertions", &vec![0; LAST_POSITION as usize]);
+    time_board("undoing", &sweeps::undoing(LAST_POSITION as usize));
     print_stack(random);
 }
 
@@ -117,7 +121,7 @@ fn time_digest(leaves: &[u8]) {
 }
 
 /// Plain Rust in one pass: the comparison's looks at every later entry.
-fn time_board(targets: &[u32]) {
+fn time_board(kind: &str, targets: &[u32]) {
     let (mut ours, mut out) = (vec![0; targets.len()], vec![0; targets.len()]);
     let mut race = Race::new(Clock::Processor, || {
         plain::board_in_one_pass(black_box(targets), black_box(&mut out));
@@ -133,7 +137,14 @@ fn time_board(targets: &[u32]) {
         );
     }
     assert_eq!(ours, out, "board");
-    print_time(&format!("board of {} entries", targets.len()), &race);
+    print_time(&format!("board of {} {kind}", targets.len()), &race);
+    let an_entry = 1e9 / targets.len() as f64;
+    println!(
+        "  {:>24}  library {:.2}  plain {:.2}",
+        "ns an entry, best",
+        race.best().0 * an_entry,
+        race.best().1 * an_entry
+    );
 }
 
 fn print_stack(random: &mut Random) {

@@ -176,15 +176,22 @@ fn small_boards(tally: &mut Tally, count: u32) {
     }
 }
 
-/// Insertions, strikes of earlier entries, of later ones, of themselves, and of none.
+/// Insertions, strikes of earlier entries, half of them of the last four, so that strikes are struck, of later ones, of themselves,
+/// and of none.
 pub fn targets(random: &mut Random, count: usize) -> Vec<u32> {
     let target = |i: usize| match random.below(10) {
-        0..4 => 0,
-        4..8 => random.below(i + 1) as u32,
+        0..3 => 0,
+        3..6 => random.below(i + 1) as u32,
+        6..8 => i.saturating_sub(random.below(4)) as u32,
         8 => random.below(count + 3) as u32,
         _ => random.pick(&[i as u32 + 1, count as u32, count as u32 + 1, 1 << 31, u32::MAX]),
     };
     (0..count).map(target).collect()
+}
+
+/// An insertion, and entries each of which strikes the one before it.
+pub fn undoing(count: usize) -> Vec<u32> {
+    (0..count as u32).collect()
 }
 
 pub fn boards(tally: &mut Tally) {
@@ -196,5 +203,6 @@ pub fn boards(tally: &mut Tally) {
     for count in (0..3000).chain([10_000, 100_000]) {
         let targets = targets(&mut tally.random, count);
         board(tally, &targets, count);
+        board(tally, &undoing(count), count);
     }
 }

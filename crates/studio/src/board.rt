@@ -1,4 +1,4 @@
-// A user's board: the insertions of its view that no later entry strikes.
+// A user's board: the standing insertions of its view.
 ghost use mathlib.Core.Path.{_≡_};
 ghost use Prim.Native.Nat.{_≤_};
 ghost use lib.ListN.{length};
