@@ -176,7 +176,7 @@ fn small_boards(tally: &mut Tally, count: u32) {
     }
 }
 
-/// Insertions, strikes of earlier entries, half of them of the last four, so that strikes are struck, of later ones, of themselves,
+/// Insertions, strikes of earlier entries, many of them of the last four, so that strikes are struck, of later ones, of themselves,
 /// and of none.
 pub fn targets(random: &mut Random, count: usize) -> Vec<u32> {
     let target = |i: usize| match random.below(10) {
