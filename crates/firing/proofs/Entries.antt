@@ -1,0 +1,37 @@
+-- The shape of an entry, by the way through its tests.
+use mathlib.Core.Path.{_≡_, refl, sym, _∙_}
+use mathlib.Core.Bool.{Bool, true, false, cond, _&&_, _||_}
+use mathlib.Core.List.{List}
+use Prim.Native.Nat.{ℕ, _≤_, _<_}
+use native.Mathlib.Omega.{arith}
+use lib.Dec.{eqb, leb}
+use lib.ListN.{length, getD}
+use borrow.Author.Tests.{lt-leb, le-leb, eq-eqb, ne-eqb}
+use Rattle.firing.specs.Entry.{strikes, isSchedule, entryFits}
+
+pub or-false : (t : Bool) → t ≡ t || false
+or-false true = refl
+or-false false = refl
+
+module _ (entry : List ℕ) where
+  pub empty : length entry < 1 → false ≡ entryFits entry
+  unfolding entryFits
+  empty h = rw (lt-leb 1 (length entry) h)
+
+  pub too-long : 1024 < length entry → false ≡ entryFits entry
+  unfolding entryFits
+  too-long h = rw (lt-leb (length entry) 1024 h, le-leb 1 (length entry) (omega arith))
+
+  module _ (some : 1 ≤ length entry) (short : length entry ≤ 1024) (first : ℕ) (ef : first ≡ getD entry 0 0) where
+    pub strike-fits : first ≡ 2 → eqb (length entry) 5 ≡ entryFits entry
+    unfolding entryFits strikes isSchedule
+    strike-fits e = rw (le-leb 1 (length entry) some, le-leb (length entry) 1024 short, ← ef, e) (or-false (eqb (length entry) 5))
+
+    pub text-fits : first ≡ 1 → true ≡ entryFits entry
+    unfolding entryFits strikes isSchedule
+    text-fits e = rw (le-leb 1 (length entry) some, le-leb (length entry) 1024 short, ← ef, e)
+
+    pub other-fits : (first ≡ 2 → ⊥) → (first ≡ 1 → ⊥) → eqb first 3 ≡ entryFits entry
+    unfolding entryFits strikes isSchedule
+    other-fits n m =
+        rw (le-leb 1 (length entry) some, le-leb (length entry) 1024 short, ← ef, ne-eqb first 2 n, ne-eqb first 1 m)

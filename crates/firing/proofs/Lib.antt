@@ -1,0 +1,5 @@
+-- signed numbers, and laws of entries, segments and firings
+pub mod Signed
+pub mod Entries
+pub mod Segments
+pub mod Schedules

@@ -1,0 +1,109 @@
+-- One segment: its rules by the way through their tests, and how long it lasts.
+use mathlib.Core.Path.{_≡_, refl, sym, ap, _∙_}
+use mathlib.Core.Bool.{Bool, true, false, cond, _&&_, and-eq-true-iff}
+use Prim.Native.Nat.{ℕ, zero, suc, _+_, _-_, _*_, _/_, _≤_, _<_}
+use native.Mathlib.Nat.{mul-suc, suc-mul, div-mul-le-self, lt-div-mul-add, div-lt-iff-lt-mul}
+use native.Mathlib.Omega.{arith}
+use lib.Dec.{eqb, leb, ltb}
+use lib.IntN.{ℤ, pos, negsuc, natAbs, subℕ, _-ℤ_}
+use borrow.Author.Tests.{lt-leb, le-leb, leb-true, eqb-true, eqb-false, eq-eqb, ne-eqb, ltb-true, ltb-false}
+use Rattle.sha256.proofs.Cases.{by-bool}
+use Rattle.firing.specs.declared.segment.Segment.{Segment}
+use Rattle.firing.specs.Schedule.{change, sameSign, segmentFits, roundedUp, segmentMinutes}
+use Rattle.firing.proofs.Signed.{pos-minus}
+
+-- rounding up: the least number that, taken b times, is not below a
+pub rounded-enough : (a b : ℕ) → 0 < b → a ≤ roundedUp a b * b
+unfolding roundedUp
+rounded-enough a b h = omega (arith, lt-div-mul-add {a = a + (b - 1)} h)
+
+pub rounded-least : (a b : ℕ) → 0 < b → roundedUp a b * b < a + b
+unfolding roundedUp
+rounded-least a b h = omega (arith, div-mul-le-self (a + (b - 1)) b)
+
+pub rounded-most : (a b : ℕ) → 0 < b → roundedUp a b ≤ a
+unfolding roundedUp
+rounded-most a (suc b) h =
+    let i = div-lt-iff-lt-mul {k = suc b} {x = a + (suc b - 1)} {y = suc a} (omega arith) .1 (omega (arith, mul-suc (suc a) b, suc-mul a b)) in
+    omega arith
+
+-- the difference of two temperatures is no greater than the span that both lie in
+pub change-most : (least most a b : ℕ) → least ≤ a → a ≤ most → least ≤ b → b ≤ most → natAbs (pos a -ℤ pos b) ≤ most - least
+change-most least most a b la ma lb mb =
+    rw (pos-minus a b)
+    (by-bool (λ t. natAbs (cond t (negsuc (b - suc a)) (pos (a - b))) ≤ most - least) (ltb a b)
+    (λ e. let h = ltb-true a b e in omega arith)
+    (λ e. let h = ltb-false a b e in omega arith))
+
+module _ (before : ℕ) (s : Segment) where
+  pub rate-out : 600 < natAbs (s .rate) → false ≡ segmentFits before s
+  unfolding segmentFits
+  rate-out h = rw (lt-leb (natAbs (s .rate)) 600 h)
+
+  module _ (slow : natAbs (s .rate) ≤ 600) where
+    pub target-low : s .target < 20 → false ≡ segmentFits before s
+    unfolding segmentFits
+    target-low h = rw (le-leb (natAbs (s .rate)) 600 slow, lt-leb 20 (s .target) h)
+
+    module _ (warm : 20 ≤ s .target) where
+      pub target-high : 1350 < s .target → false ≡ segmentFits before s
+      unfolding segmentFits
+      target-high h =
+          rw (le-leb (natAbs (s .rate)) 600 slow, le-leb 20 (s .target) warm, lt-leb (s .target) 1350 h)
+
+      module _ (low : s .target ≤ 1350) where
+        pub hold-long : 5999 < s .hold → false ≡ segmentFits before s
+        unfolding segmentFits
+        hold-long h =
+            rw (le-leb (natAbs (s .rate)) 600 slow, le-leb 20 (s .target) warm, le-leb (s .target) 1350 low, lt-leb (s .hold) 5999 h)
+
+        pub sign-decides : (t : Bool) → s .hold ≤ 5999 → t ≡ sameSign (s .rate) (change before s) → t ≡ segmentFits before s
+        unfolding segmentFits
+        sign-decides t h e =
+            e
+            ∙ rw (le-leb (natAbs (s .rate)) 600 slow, le-leb 20 (s .target) warm, le-leb (s .target) 1350 low, le-leb (s .hold) 5999 h)
+
+  pub holds-alone : natAbs (s .rate) ≡ 0 → s .hold ≡ segmentMinutes before s
+  unfolding segmentMinutes
+  holds-alone e = rw (eq-eqb (natAbs (s .rate)) 0 e)
+
+  pub moves : (natAbs (s .rate) ≡ 0 → ⊥)
+      → (60 * natAbs (change before s) + (natAbs (s .rate) - 1)) / natAbs (s .rate) + s .hold ≡ segmentMinutes before s
+  unfolding segmentMinutes roundedUp
+  moves n = rw (ne-eqb (natAbs (s .rate)) 0 n)
+
+-- a segment that keeps the rules
+pub record Kept (before : ℕ) (s : Segment) : Type 0 where
+  pub slow : natAbs (s .rate) ≤ 600
+  pub warm : 20 ≤ s .target
+  pub low : s .target ≤ 1350
+  pub short : s .hold ≤ 5999
+  pub sign : sameSign (s .rate) (change before s) ≡ true
+
+pub kept : (before : ℕ) (s : Segment) → segmentFits before s ≡ true → Kept before s
+unfolding segmentFits
+kept before s e =
+    let rate = and-eq-true-iff _ _ .0 e in
+    let low = and-eq-true-iff _ _ .0 (rate .1) in
+    let high = and-eq-true-iff _ _ .0 (low .1) in
+    let hold = and-eq-true-iff _ _ .0 (high .1) in
+    record {
+      slow = leb-true (natAbs (s .rate)) 600 (rate .0);
+      warm = leb-true 20 (s .target) (low .0);
+      low = leb-true (s .target) 1350 (high .0);
+      short = leb-true (s .hold) 5999 (hold .0);
+      sign = hold .1;
+    }
+
+-- the longest segment: 1,330 degrees at 1 °C per hour, and the longest hold
+pub segment-most : (before : ℕ) (s : Segment) → 20 ≤ before → before ≤ 1350 → Kept before s → segmentMinutes before s ≤ 85799
+unfolding segmentMinutes change
+segment-most before s least most k =
+    let short = k .short in
+    let span = change-most 20 1350 (s .target) before (k .warm) (k .low) least most in
+    by-bool (λ t. cond t (s .hold) (roundedUp (60 * natAbs (change before s)) (natAbs (s .rate)) + s .hold) ≤ 85799)
+    (eqb (natAbs (s .rate)) 0)
+    (λ e. omega arith)
+    (λ e.
+      let n = eqb-false (natAbs (s .rate)) 0 e in
+      omega (arith, rounded-most (60 * natAbs (change before s)) (natAbs (s .rate)) (omega arith)))

@@ -1,0 +1,48 @@
+use Rattle.firing.proofs.Schedules.{other-first, no-segment, many-segments, length-decides}
+use borrow.Author.Needs.{needs}
+use Rattle.firing.proofs.schedule.laid_out.Statement.{statement}
+use Rattle.firing.proofs.schedule.laid_out.Tie as tie
+use Rattle.firing.proofs.schedule.laid_out.Reads as reads
+use Rattle.firing.proofs.schedule.laid_out.Lts as lts
+use Rattle.sha256.proofs.bytes.byte_at.Reads as byte-at-reads
+
+byte-at-requires : tie.Need-byte-at-requires
+byte-at-requires c κs = search needs
+
+returns : tie.Need-returns
+returns c = other-first _ _ (c .before .byte-at .ensures) (c .if1 .taken)
+
+byte-at-requires-2 : tie.Need-byte-at-requires-2
+byte-at-requires-2 c κs = search needs
+
+cast-count : tie.Need-cast-count
+cast-count c = search needs
+
+returns-2 : tie.Need-returns-2
+returns-2 c = no-segment _ _ (c .before .before .before .byte-at .ensures) (c .before .before .if1 .left) _ (c .before .byte-at2 .ensures) (c .if2 .taken)
+
+returns-3 : tie.Need-returns-3
+returns-3 c = many-segments _ _ (c .before .before .before .before .byte-at .ensures) (c .before .before .before .if1 .left) _ (c .before .before .byte-at2 .ensures) (c .before .if2 .left) (c .if3 .taken)
+
+mul-result : tie.Need-mul-result
+mul-result c = search needs
+
+add-result : tie.Need-add-result
+add-result c = search needs
+
+returns-4 : tie.Need-returns-4
+returns-4 c = length-decides _ _ (c .before .before .before .before .byte-at .ensures) (c .before .before .before .if1 .left) _ (c .before .before .byte-at2 .ensures) (c .before .if2 .left) (c .if3 .left)
+
+pub laid-out-spec : {M : Type 1} → statement M
+laid-out-spec =
+    tie.close
+    (tie.spec
+    byte-at-requires
+    returns
+    byte-at-requires-2
+    cast-count
+    returns-2
+    returns-3
+    mul-result
+    add-result
+    returns-4)

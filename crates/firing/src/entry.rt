@@ -1,0 +1,34 @@
+// The shapes of entries: what inserts, what strikes, and how long each may be.
+ghost use mathlib.Core.Path.{_≡_};
+ghost use Rattle.firing.specs.Entry.{entryFits, targetOf};
+use sha256::bytes;
+
+// 19's shape: whether an entry inserts, strikes or holds a firing, and has a length that it may have.
+pub fn fits(entry: &[u8]) -> bool
+    ensures { λ r. ⌜ r ≡ entryFits (now (entry .entry)) ⌝ }
+{
+    if entry.len() < 1 {
+        return false;
+    }
+    if 1024 < entry.len() {
+        return false;
+    }
+    let first = bytes::byte_at(entry, 0);
+    if first == 2 {
+        return entry.len() == 5;
+    }
+    if first == 1 {
+        return true;
+    }
+    first == 3
+}
+
+// The position that an entry strikes, 0 for an insertion: what the board's list of targets has for it.
+pub fn target(entry: &[u8]) -> u32
+    ensures { λ r. ⌜ r ≡ targetOf (now (entry .entry)) ⌝ }
+{
+    if bytes::byte_at(entry, 0) == 2 {
+        return bytes::u32_at(entry, 1);
+    }
+    0
+}

@@ -1,0 +1,99 @@
+// One segment of a firing: its six bytes, the rules that it keeps, and how long it lasts.
+ghost use mathlib.Core.Path.{_≡_};
+ghost use lib.IntN.{natAbs};
+ghost use Rattle.firing.specs.Schedule.{twosComplement, segmentOf, change, sameSign, segmentFits, segmentMinutes};
+use sha256::bytes;
+
+// A segment: the rate in °C per hour, below 0 when cooling, the target in °C, and the hold in minutes.
+pub struct Segment {
+    pub rate: i16,
+    pub target: u16,
+    pub hold: u16,
+}
+
+// The number that two bytes stand for in two's complement.
+fn signed(bits: u16) -> i16
+    ensures { λ r. ⌜ r ≡ twosComplement bits ⌝ }
+{
+    if bits < 32768 {
+        return bits as i16;
+    }
+    (bits as i32 - 65536) as i16
+}
+
+// The segment in the first six bytes.
+pub fn first(s: &[u8]) -> Segment
+    ensures { λ r. ⌜ r ≡ segmentOf (now (s .entry)) ⌝ }
+{
+    let rate = signed(bytes::u16_at(s, 0));
+    let target = bytes::u16_at(s, 2);
+    let hold = bytes::u16_at(s, 4);
+    Segment {
+        rate: rate,
+        target: target,
+        hold: hold,
+    }
+}
+
+// The size of a number. The lowest one's size has one bit more than a signed number of that width, so it is taken at 64 bits.
+fn size(x: i32) -> u32
+    ensures { λ r. ⌜ r ≡ natAbs x ⌝ }
+{
+    if x < 0 {
+        return (0 - x as i64) as u32;
+    }
+    x as u32
+}
+
+// Whether two numbers are both below 0, both above it, or both 0.
+fn same_sign(a: i32, b: i32) -> bool
+    ensures { λ r. ⌜ r ≡ sameSign a b ⌝ }
+{
+    if a < 0 {
+        return b < 0;
+    }
+    if 0 < a {
+        return 0 < b;
+    }
+    b == 0
+}
+
+// The target minus the temperature before.
+fn change(before: u16, s: Segment) -> i32
+    ensures { λ r. ⌜ r ≡ change before s ⌝ }
+{
+    s.target as i32 - before as i32
+}
+
+// Whether rate, target and hold are in range and the rate has the sign of the change.
+pub fn fits(before: u16, s: Segment) -> bool
+    ensures { λ r. ⌜ r ≡ segmentFits before s ⌝ }
+{
+    let rate = s.rate as i32;
+    if 600 < size(rate) {
+        return false;
+    }
+    if s.target < 20 {
+        return false;
+    }
+    if 1350 < s.target {
+        return false;
+    }
+    if 5999 < s.hold {
+        return false;
+    }
+    same_sign(rate, change(before, s))
+}
+
+// How long the segment lasts from a temperature on: the change at the rate's size, rounded up to whole minutes, and the hold.
+pub fn minutes(before: u16, s: Segment) -> u32
+    ensures { λ r. ⌜ r ≡ segmentMinutes before s ⌝ }
+{
+    let hold = s.hold as u32;
+    let rate = size(s.rate as i32);
+    if rate == 0 {
+        return hold;
+    }
+    let difference = size(change(before, s));
+    (60 * difference + (rate - 1)) / rate + hold
+}
