@@ -4,4 +4,5 @@ mod calls;
 mod cover;
 mod hash;
 mod label;
+mod schedule;
 mod signature;
