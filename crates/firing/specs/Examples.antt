@@ -1,1 +1,65 @@
--- Computed examples.
+-- Computed examples: document 01's own cases of entries, and firings at the ends of their ranges.
+use mathlib.Core.Path.{_≡_, refl}
+use mathlib.Core.Bool.{true, false}
+use mathlib.Core.List.{List, [], _∷_}
+use Prim.Native.Nat.{ℕ, zero, suc}
+use lib.IntN.{pos, negsuc}
+use lib.ListN.{replicate}
+use Rattle.sha256.specs.Bytes.{numberAt}
+use Rattle.firing.specs.Entry.{strikes, isSchedule, entryFits, targetOf}
+use Rattle.firing.specs.Schedule.{twosComplement, segmentOf, segmentsIn, segmentCount, segments, laidOut, change, sameSign, segmentFits, segmentsFit, roundedUp, segmentMinutes, total, peak, scheduleFits, rulesKept, reportCode, reported}
+
+-- "Entries of 1,024 and 1,025 bytes: taken, 19."
+entries-of-1024-and-1025 : (entryFits (1 ∷ replicate 1023 65) ≡ true) × (entryFits (1 ∷ replicate 1024 65) ≡ false)
+unfolding entryFits strikes isSchedule
+entries-of-1024-and-1025 = (refl, refl)
+
+-- An empty entry and the first bytes 0 and 4 are refused, 3 is not; a strike has 5 bytes.
+entry-shapes : (entryFits [] ≡ false) × (entryFits (0 ∷ []) ≡ false) × (entryFits (4 ∷ []) ≡ false) × (entryFits (3 ∷ []) ≡ true)
+    × (entryFits (2 ∷ 0 ∷ 0 ∷ 0 ∷ 7 ∷ []) ≡ true) × (entryFits (2 ∷ 0 ∷ 0 ∷ 0 ∷ 7 ∷ 0 ∷ []) ≡ false)
+unfolding entryFits strikes isSchedule
+entry-shapes = (refl, refl, refl, refl, refl, refl)
+
+-- On the board a strike has its target, and a text and a schedule have 0.
+board-targets : (targetOf (2 ∷ 0 ∷ 0 ∷ 1 ∷ 7 ∷ []) ≡ 263) × (targetOf (1 ∷ 0 ∷ 0 ∷ 1 ∷ 7 ∷ []) ≡ 0) × (targetOf (3 ∷ 0 ∷ 0 ∷ 1 ∷ 7 ∷ []) ≡ 0)
+unfolding targetOf strikes numberAt
+board-targets = (refl, refl, refl)
+
+-- 32,767, -32,768 and -1
+two-bytes : (twosComplement 32767 ≡ pos 32767) × (twosComplement 32768 ≡ negsuc 32767) × (twosComplement 65535 ≡ negsuc 0)
+unfolding twosComplement
+two-bytes = (refl, refl, refl)
+
+-- 100 °C an hour to 950 and 20 minutes there, which is 558 minutes and 20; then 150 °C an hour down to 600, which is 140
+abbrev bisque : List ℕ
+bisque = 3 ∷ 2 ∷ 0 ∷ 100 ∷ 3 ∷ 182 ∷ 0 ∷ 20 ∷ 255 ∷ 106 ∷ 2 ∷ 88 ∷ 0 ∷ 0 ∷ []
+
+bisque-report : reported bisque ≡ record { code = 0; minutes = 718; peak = 950 }
+unfolding reported reportCode scheduleFits laidOut segments segmentsIn segmentCount segmentOf segmentsFit segmentFits segmentMinutes roundedUp change sameSign total peak twosComplement numberAt entryFits strikes isSchedule
+bisque-report = refl
+
+-- Sixteen segments between 20 and 1,350 °C at 1 °C an hour, each with the longest hold: no firing lasts longer.
+abbrev rounds : ℕ → List ℕ
+rounds zero = []
+rounds (suc n) = 0 ∷ 1 ∷ 5 ∷ 70 ∷ 23 ∷ 111 ∷ 255 ∷ 255 ∷ 0 ∷ 20 ∷ 23 ∷ 111 ∷ rounds n
+
+longest-report : reported (3 ∷ 16 ∷ rounds 8) ≡ record { code = 0; minutes = 1372784; peak = 1350 }
+unfolding reported reportCode scheduleFits laidOut segments segmentsIn segmentCount segmentOf segmentsFit segmentFits segmentMinutes roundedUp change sameSign total peak twosComplement numberAt entryFits strikes isSchedule
+longest-report = refl
+
+-- From 20 to 21 °C at 7 °C an hour is 8 4/7 minutes, reported as 9; a first target of 20 has rate 0 and lasts its hold.
+short-reports : (reported (3 ∷ 1 ∷ 0 ∷ 7 ∷ 0 ∷ 21 ∷ 0 ∷ 0 ∷ []) ≡ record { code = 0; minutes = 9; peak = 21 })
+    × (reported (3 ∷ 1 ∷ 0 ∷ 0 ∷ 0 ∷ 20 ∷ 0 ∷ 30 ∷ []) ≡ record { code = 0; minutes = 30; peak = 20 })
+unfolding reported reportCode scheduleFits laidOut segments segmentsIn segmentCount segmentOf segmentsFit segmentFits segmentMinutes roundedUp change sameSign total peak twosComplement numberAt entryFits strikes isSchedule
+short-reports = (refl, refl)
+
+-- 26: 100 °C an hour from 950 to 600, a segment of which a byte is missing, a text; 19: a strike of 6 bytes
+refusals : (reportCode (3 ∷ 2 ∷ 0 ∷ 100 ∷ 3 ∷ 182 ∷ 0 ∷ 20 ∷ 0 ∷ 100 ∷ 2 ∷ 88 ∷ 0 ∷ 0 ∷ []) ≡ 26)
+    × (reportCode (3 ∷ 1 ∷ 0 ∷ 7 ∷ 0 ∷ 21 ∷ 0 ∷ []) ≡ 26) × (reportCode (1 ∷ 65 ∷ []) ≡ 26) × (reportCode (2 ∷ 0 ∷ 0 ∷ 0 ∷ 7 ∷ 0 ∷ []) ≡ 19)
+unfolding reportCode scheduleFits laidOut segments segmentsIn segmentCount segmentOf segmentsFit segmentFits change sameSign twosComplement numberAt entryFits strikes isSchedule
+refusals = (refl, refl, refl, refl)
+
+-- 26 in a Write: a text passes, a schedule with no segment does not.
+written-entries : (rulesKept (1 ∷ 65 ∷ []) ≡ true) × (rulesKept (3 ∷ 0 ∷ []) ≡ false)
+unfolding rulesKept scheduleFits laidOut segmentCount isSchedule
+written-entries = (refl, refl)

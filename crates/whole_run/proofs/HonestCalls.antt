@@ -10,7 +10,8 @@ use Rattle.user_write.specs.declared.call.Write.{Write}
 use Rattle.user_read.specs.declared.call.Read.{Read}
 use Rattle.user.specs.declared.call.Step.{Step}
 use Rattle.user_update.specs.Update.{updateEnded, updateWant, updateAnswers}
-use Rattle.user_write.specs.Write.{entryFits, targetFits, commitNumber, writeWant, heldEntry, writeAnswers}
+use Rattle.firing.specs.Entry.{entryFits}
+use Rattle.user_write.specs.Write.{targetFits, commitNumber, writeWant, heldEntry, writeAnswers}
 use Rattle.user_read.specs.Read.{readCount, readWant}
 use Rattle.whole_run.specs.World.{User, updating, writing, reading, Input, startUpdate, startWrite, startRead, answer, Lent}
 use Rattle.whole_run.specs.Honest.{Setup, keyOf, Server, Network, set, settingsIn, steps, stepOf, Written, Run, wrote, begins}

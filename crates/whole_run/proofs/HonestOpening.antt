@@ -29,7 +29,9 @@ use Rattle.user_update.specs.declared.call.Update.{Update}
 use Rattle.user_write.specs.declared.call.Write.{Write}
 use Rattle.user.specs.Asking.{settingsFit, keptFits, setupChecks, requestRoom}
 use Rattle.user_update.specs.Update.{UpdateLeft, freshUpdate, updateGoes, updateTaken, arrived}
-use Rattle.user_write.specs.Write.{Key, WriteLent, WriteLeft, withHeld, withHashes, withPath, openedAt, entryFits, targetFits, ownLeaf, heldEntry, freshWrite, writeRoom, writeStartChecks, writeStarted, writeAsks, writeWaits, writeRefused, openingChecks, opening, writeOpens, writeUpdates, writeGoes, writeTaken, withUpdate}
+use Rattle.firing.specs.Entry.{entryFits}
+use Rattle.firing.specs.Schedule.{rulesKept}
+use Rattle.user_write.specs.Write.{Key, WriteLent, WriteLeft, withHeld, withHashes, withPath, openedAt, targetFits, ownLeaf, heldEntry, freshWrite, writeRoom, writeStartChecks, writeStarted, writeAsks, writeWaits, writeRefused, openingChecks, opening, writeOpens, writeUpdates, writeGoes, writeTaken, withUpdate}
 use Rattle.user_update.proofs.UpdateRules.{endedLeft}
 use Rattle.whole_run.specs.Honest.{Setup, settingsIn, set}
 use Rattle.whole_run.proofs.Requests.{entry-sizes}
@@ -43,14 +45,14 @@ use Rattle.whole_run.proofs.HonestUpdates.{Arrived}
 -- the start of a Write
 module _ (s : Settings) (k : Kept) (m : WriteLent) (entry randomizer : List ℕ) (key : Key)
     (settled : settingsFit s ≡ true) (in-range : keptFits k ≡ true) (room : 2566 ≤ length (m .request))
-    (whole : 65504 ≤ length (key .tree)) (shaped : entryFits entry ≡ true) where
+    (whole : 65504 ≤ length (key .tree)) (shaped : entryFits entry ≡ true) (ruled : rulesKept entry ≡ true) where
   -- 22, 21 and 19 pass; 18 and 17 are left
   pub start-passes : (not (k .opened) || eqs (value (ownLeaf s entry)) (piece (m .path) 0)) ≡ true
       → ((k .opened && k .signed) || ltb (k .number) 1024) ≡ true
       → firstCode (writeStartChecks s k (m .path) entry key (m .request)) ≡ 0
   unfolding writeStartChecks setupChecks writeRoom requestRoom firstCode
   start-passes same spare =
-      rw (settled, in-range, le-leb 2566 (length (m .request)) room, le-leb 65504 (length (key .tree)) (omega arith), same, shaped, spare)
+      rw (settled, in-range, le-leb 2566 (length (m .request)) room, le-leb 65504 (length (key .tree)) (omega arith), same, shaped, ruled, spare)
 
   -- what a start that passes leaves
   abbrev pub started : Bool → WriteLeft

@@ -1,5 +1,5 @@
--- The premises of the honest run can be met: the first Write of user 1 on two servers is valid, and so ends with 0 after five answers; and
--- it is valid still after an Update that was refused.
+-- The premises of the honest run can be met: the first Write of user 1 on two servers, of a firing schedule, is valid, and so ends with 0
+-- after five answers; and it is valid still after an Update that was refused.
 use mathlib.Core.Path.{_≡_, refl, ap, sym, _∙_, subst}
 use mathlib.Core.Logic.{inl, inr}
 use mathlib.Core.Bool.{true, false, cond, _&&_}
@@ -10,13 +10,16 @@ use lib.Dec.{eqb, ltb}
 use lib.ListN.{length, replicate, length-replicate}
 use borrow.Author.Tests.{eqb-true, eqb-false, leb-true}
 use Rattle.sha256.proofs.Cases.{by-bool}
+use Rattle.sha256.specs.Bytes.{numberAt}
 use Rattle.tree.specs.Level.{leastFrom, reaches, lg, isFull, highestFull}
 use Rattle.tree.specs.Label.{owner}
 use Rattle.tree.specs.Setup.{Settings, firstCode}
 use Rattle.user.specs.declared.call.Kept.{Kept}
 use Rattle.user.specs.Asking.{requestRoom, refused}
 use Rattle.user.proofs.Passed.{setup-passed, by-cond}
-use Rattle.user_write.specs.Write.{entryFits, strikes, targetFits, commitNumber, writeLevel, writeAnswers}
+use Rattle.firing.specs.Entry.{strikes, isSchedule, entryFits}
+use Rattle.firing.specs.Schedule.{twosComplement, segmentOf, segmentsIn, segmentCount, segments, laidOut, change, sameSign, segmentFits, segmentsFit, scheduleFits, rulesKept}
+use Rattle.user_write.specs.Write.{targetFits, commitNumber, writeLevel, writeAnswers}
 use Rattle.tree.proofs.Cases.{not-both}
 use Rattle.whole_run.specs.World.{Lent, User, Input, startUpdate, startWrite}
 use Rattle.whole_run.specs.Runs.{newUser}
@@ -43,8 +46,9 @@ little n p size s (suc j) =
     let r = little n p size s j in
     omega arith
 
+-- 100 °C an hour to 950 °C, and 20 minutes there
 abbrev entry : List ℕ
-entry = 1 ∷ 65 ∷ []
+entry = 3 ∷ 1 ∷ 0 ∷ 100 ∷ 3 ∷ 182 ∷ 0 ∷ 20 ∷ []
 
 abbrev memory : Lent
 memory =
@@ -81,11 +85,11 @@ new =
       number = omega arith;
       position = omega arith;
       target = refl;
-      room = λ s one few. let l : length (replicate {A = ℕ} 8000 0) ≡ 8000 = length-replicate {A = ℕ} 8000 0 in omega (arith, little 2 1 2 s 3, l);
+      room = λ s one few. let l : length (replicate {A = ℕ} 8000 0) ≡ 8000 = length-replicate {A = ℕ} 8000 0 in omega (arith, little 2 1 8 s 3, l);
     }
 
 valid : ValidCall small start 1 first
-unfolding Alone ValidInput runOf atFirst newUser entryFits strikes
+unfolding Alone ValidInput runOf atFirst newUser entryFits strikes isSchedule rulesKept scheduleFits laidOut segments segmentsIn segmentCount segmentOf segmentsFit segmentFits change sameSign twosComplement numberAt
 valid =
     record {
       one = omega arith;
@@ -95,6 +99,7 @@ valid =
         record { hashes = length-replicate {A = ℕ} 1248 0; held = length-replicate {A = ℕ} 1026 0; request = let l : length (replicate {A = ℕ} 2566 0) ≡ 2566 = length-replicate {A = ℕ} 2566 0 in omega arith },
         refl,
         length-replicate {A = ℕ} 32 0,
+        refl,
         refl,
         λ o. not-both false o refl,
         λ _. new,
@@ -160,7 +165,7 @@ valid-later =
       one = omega arith;
       listed = omega arith;
       alone = λ b n. shut b;
-      input = (valid .input .0, valid .input .1, valid .input .2, valid .input .3, λ o. not-both _ o (shut 1), λ _. new-later);
+      input = (valid .input .0, valid .input .1, valid .input .2, valid .input .3, valid .input .4, λ o. not-both _ o (shut 1), λ _. new-later);
     }
 
 pub write-after-refusal : (handed small (start .network) 1 early 0 .code ≡ 0 → ⊥) × NotRefused small later 1 first

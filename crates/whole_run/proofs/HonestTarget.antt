@@ -21,7 +21,9 @@ use Rattle.user.specs.Asking.{settingsFit, keptFits, setupChecks, refused, done
 use Rattle.user.proofs.Passed.{by-cond}
 use Rattle.user_update.specs.Update.{UpdateLeft, freshUpdate, updateGoes, updateRefused, updateSetup, updateStarted, updateTaken}
 use Rattle.user_update.proofs.UpdateRules.{by-taken, by-goes, answers-least}
-use Rattle.user_write.specs.Write.{Key, WriteLent, WriteLeft, withHeld, withUpdate, entryFits, targetFits, heldEntry, freshWrite, writeRefused, writeAsks, writeWaits, writeStarted, writeTaken, openingChecks, writeOpens}
+use Rattle.firing.specs.Entry.{entryFits}
+use Rattle.firing.specs.Schedule.{rulesKept}
+use Rattle.user_write.specs.Write.{Key, WriteLent, WriteLeft, withHeld, withUpdate, targetFits, heldEntry, freshWrite, writeRefused, writeAsks, writeWaits, writeStarted, writeTaken, openingChecks, writeOpens}
 use Rattle.whole_run.specs.World.{Lent, idle, updating, writing, Sent, User, returned, sentAfter, afterUpdate, afterWrite, writeLent, unlessRefused, Input, startUpdate, startWrite, taking, userStep}
 use Rattle.whole_run.specs.Honest.{Setup, InRange, keyOf, settingsIn, Server, Network, set, reply, answerBytes, serverLeft, arrives, steps, comesBack, after, takenStep, stepOf, handed, Act, Run, Starts, runOf}
 use Rattle.whole_run.specs.HonestClaim.{ValidMemory, ValidInput, ValidCall, answersOf, countOf, RefusedWrite, AllValid, NotRefused, Reaches, Serves, HonestRun}
@@ -200,7 +202,7 @@ module _ (c : Setup) (a : ℕ) (entry : List ℕ) where
 
 -- a Write of user a, whose Update would be valid
 module _ (c : Setup) (range : InRange c) (r : Run) (a : ℕ) (m : Lent) (entry randomizer : List ℕ) (valid : ValidCall c r a (startUpdate m))
-    (key : m .key ≡ keyOf c a) (shaped : entryFits entry ≡ true) (number : r .network .users a .kept .number < 1024)
+    (key : m .key ≡ keyOf c a) (shaped : entryFits entry ≡ true) (ruled : rulesKept entry ≡ true) (number : r .network .users a .kept .number < 1024)
     (not-refused : NotRefused c r a (startUpdate m))
     (serves : Serves r a (after c (r .network) a (startUpdate m) (countOf c r a (startUpdate m)) .users a) (startUpdate m)) where
   abbrev x : Network
@@ -251,7 +253,7 @@ module _ (c : Setup) (range : InRange c) (r : Run) (a : ℕ) (m : Lent) (entry r
   starts =
       let f = update-goes (settingsIn c a) (user .kept) (m .hashes) (m .request) accepted in
       write-starts (settingsIn c a) (user .kept) (writeLent user m) entry randomizer (m .key) (f .1) (f .2) (memory .request)
-      (subst (λ (k : Key). 65504 ≤ length (k .tree)) (sym key) (tree-size c a)) shaped shut number
+      (subst (λ (k : Key). 65504 ≤ length (k .tree)) (sym key) (tree-size c a)) shaped ruled shut number
       ∙ ap (λ (l : UpdateLeft). writeWaits (user .kept) fresh lent l) (sym (f .0))
 
   -- its start is not refused
@@ -311,15 +313,16 @@ module _ (c : Setup) (range : InRange c) (r : Run) (a : ℕ) (m : Lent) (entry r
 -- After every list of calls: a Write that is valid but for its target or the log's limit is refused at the end of its Update.
 pub refused-write : (c : Setup) → InRange c → (b : Starts) (xs : List Act) → AllValid c b xs
     → (a : ℕ) (m : Lent) (entry randomizer : List ℕ) → ValidCall c (runOf c b xs) a (startUpdate m) → m .key ≡ keyOf c a → entryFits entry ≡ true
+    → rulesKept entry ≡ true
     → runOf c b xs .network .users a .kept .number < 1024
     → (length (runOf c b xs .log) < 1048576 → targetFits (length (runOf c b xs .log)) entry ≡ false)
     → RefusedWrite c (runOf c b xs) a (startWrite m entry randomizer) (countOf c (runOf c b xs) a (startUpdate m))
 unfolding HonestRun RefusedWrite ValidInput openingChecks firstCode
-refused-write c range b xs all a m entry randomizer valid key shaped number bad =
+refused-write c range b xs all a m entry randomizer valid key shaped ruled number bad =
     let r = runOf c b xs in
     let h = honest-run c range b xs all a (startUpdate m) valid in
-    let code = opening-code c range r a m entry randomizer valid key shaped number (h .0) (h .1) in (
-      write-accepted c range r a m entry randomizer valid key shaped number (h .0) (h .1),
+    let code = opening-code c range r a m entry randomizer valid key shaped ruled number (h .0) (h .1) in (
+      write-accepted c range r a m entry randomizer valid key shaped ruled number (h .0) (h .1),
       valid .input .1,
       cases-le 1048576 (length (r .log)) (λ l. inl (code ∙ rw (le-ltb (length (r .log)) 1048576 l)))
           (λ l. inr (code ∙ rw (lt-ltb (length (r .log)) 1048576 l, bad l))),

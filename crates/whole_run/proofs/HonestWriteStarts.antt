@@ -15,7 +15,9 @@ use Rattle.user_write.specs.declared.call.Write.{Write}
 use Rattle.user.specs.declared.ask.Want.{Want}
 use Rattle.user.specs.Asking.{asks, asking}
 use Rattle.user_update.specs.Update.{freshUpdate, updateWant, updateAnswers}
-use Rattle.user_write.specs.Write.{Key, WriteLeft, WriteLent, entryFits, writeWant, withHeld, withRequest, withUpdate, heldEntry, freshWrite, writeWaits, writeStarted, writeAnswers}
+use Rattle.firing.specs.Entry.{entryFits}
+use Rattle.firing.specs.Schedule.{rulesKept}
+use Rattle.user_write.specs.Write.{Key, WriteLeft, WriteLent, writeWant, withHeld, withRequest, withUpdate, heldEntry, freshWrite, writeWaits, writeStarted, writeAnswers}
 use Rattle.user_update.proofs.UpdateRules.{askingLeft, fresh-waits}
 use Rattle.user_write.proofs.Writes.{commit-positive}
 use Rattle.whole_run.specs.World.{User, Lent, startWrite, writeLent, afterWrite, userStep, returned, sentAfter, unlessRefused}
@@ -54,6 +56,7 @@ module _ (c : Setup) (range : InRange c) (r : Run) (a : ℕ) (m : Lent) (entry r
     pub key : m .key ≡ keyOf c a
     pub random : length randomizer ≡ 32
     pub fits : entryFits entry ≡ true
+    pub ruled : rulesKept entry ≡ true
     pub resumes : user .kept .opened ≡ true → entry ≡ r .begun a
     pub new : user .kept .opened ≡ false → NewWrite c r (user .kept) entry
 
@@ -61,7 +64,7 @@ module _ (c : Setup) (range : InRange c) (r : Run) (a : ℕ) (m : Lent) (entry r
   unfolding ValidInput
   given =
       let i = valid .input in
-      record { memory = i .0; key = i .1; random = i .2; fits = i .3; resumes = i .4; new = i .5 }
+      record { memory = i .0; key = i .1; random = i .2; fits = i .3; ruled = i .4; resumes = i .5; new = i .6 }
 
   fit : Fit c (between .log) (between .w) a (user .kept)
   fit = fit-user c range (between .log) (between .w) (between .g) a (r .begun) (r .network) (valid .one) (valid .listed) (between .good)
@@ -103,7 +106,7 @@ module _ (c : Setup) (range : InRange c) (r : Run) (a : ℕ) (m : Lent) (entry r
     new-is : started ≡ waiting
     new-is =
         write-starts (settingsIn c a) (user .kept) lent entry randomizer (m .key) (fit .settings-fit) (fit .kept-fit)
-        (given .memory .request) whole (given .fits) shut (given .new shut .number)
+        (given .memory .request) whole (given .fits) (given .ruled) shut (given .new shut .number)
         ∙ ap (writeWaits (user .kept) fresh (withHeld lent (written (m .held) 0 entry))) (first-status c range a (user .kept) (m .hashes) (m .request))
 
     abbrev next : User
@@ -184,7 +187,7 @@ module _ (c : Setup) (range : InRange c) (r : Run) (a : ℕ) (m : Lent) (entry r
     unfolding freshWrite
     resumed-is =
         write-resumes c range (between .log) (between .w) (between .g) a entry (user .kept) lent opened (fit .kept-fit) ok
-        (given .memory .request) randomizer (m .key) whole (given .fits)
+        (given .memory .request) randomizer (m .key) whole (given .fits) (given .ruled)
         ∙ asked-right (settingsIn c a) (between .log) (between .w) (user .kept) fresh (withHeld lent (written (m .held) 0 entry)) (ok .version)
         (ok .path-ok) (held ∙ sym (ok .entry))
         (λ e. absurd (omega (arith, commit-positive (suc (between .w))))) (omega arith)

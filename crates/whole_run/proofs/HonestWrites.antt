@@ -21,7 +21,9 @@ use Rattle.user.specs.declared.call.Kept.{Kept}
 use Rattle.user_write.specs.declared.call.Write.{Write}
 use Rattle.user.specs.declared.ask.Want.{Want}
 use Rattle.user.specs.Asking.{settingsFit, keptFits, setupChecks, requestRoom, ofNode, asks, bodyFits, isAnswer, answerChecks, done, asking}
-use Rattle.user_write.specs.Write.{Key, WriteLent, WriteLeft, withRequest, withHeld, withSignature, openedAt, entryFits, ownLeaf, pathDigest, heldEntry, freshWrite, commitNumber, writeKind, writeLevel, writeWant, writeBody, writeRoom, writeStarted, writeAsks, signsNext, writeChecks, commitSignature, writeSignature, signing, committed, writeUpdates, writeGoes, writeTaken}
+use Rattle.firing.specs.Entry.{entryFits}
+use Rattle.firing.specs.Schedule.{rulesKept}
+use Rattle.user_write.specs.Write.{Key, WriteLent, WriteLeft, withRequest, withHeld, withSignature, openedAt, ownLeaf, pathDigest, heldEntry, freshWrite, commitNumber, writeKind, writeLevel, writeWant, writeBody, writeRoom, writeStarted, writeAsks, signsNext, writeChecks, commitSignature, writeSignature, signing, committed, writeUpdates, writeGoes, writeTaken}
 use Rattle.whole_run.specs.Honest.{Setup, InRange, settingsIn}
 use Rattle.whole_run.proofs.HonestState.{Item, hashOf, digestOf, OpenOk, bodyAt}
 use Rattle.whole_run.proofs.HonestLog.{hash-of-leaf}
@@ -107,18 +109,18 @@ module _ (c : Setup) (r : InRange c) (L : ℕ → Item) (w g a : ℕ) (entry : L
       by-bool Passes (k .signed) (λ _. refl) (λ e. lt-ltb (k .number) 1024 (ok .unsigned e .1))
 
   -- "Resuming .. starts at Reserve without Update"
-  pub write-resumes : (randomizer : List ℕ) (key : Key) → 65504 ≤ length (key .tree) → entryFits entry ≡ true
+  pub write-resumes : (randomizer : List ℕ) (key : Key) → 65504 ≤ length (key .tree) → entryFits entry ≡ true → rulesKept entry ≡ true
       → writeStarted (settingsIn c a) k m entry randomizer key
       ≡ writeAsks (settingsIn c a) k (freshWrite k entry randomizer) (withHeld m (written (m .held) 0 entry))
-  write-resumes randomizer key whole shaped =
+  write-resumes randomizer key whole shaped ruled =
       let s : Settings = settingsIn c a in
       let same : eqs (value (ownLeaf (settingsIn c a) entry)) (piece (m .path) 0) ≡ true =
       ap (eqs (value (ownLeaf (settingsIn c a) entry))) (sym same-leaf) ∙ eqs-refl (value (ownLeaf (settingsIn c a) entry)) in
-      start-goes s k m entry randomizer key settled in-range room whole shaped
-      (start-passes s k m entry randomizer key settled in-range room whole shaped
+      start-goes s k m entry randomizer key settled in-range room whole shaped ruled
+      (start-passes s k m entry randomizer key settled in-range room whole shaped ruled
       (ap (λ (b : Bool). not b || eqs (value (ownLeaf (settingsIn c a) entry)) (piece (m .path) 0)) opened ∙ same)
       (ap (λ (b : Bool). (b && k .signed) || ltb (k .number) 1024) opened ∙ signed-or-spare))
-      ∙ ap (started s k m entry randomizer key settled in-range room whole shaped) opened
+      ∙ ap (started s k m entry randomizer key settled in-range room whole shaped ruled) opened
 
   -- an answer taken in: request w′ .asked was accepted
   module _ (w′ : Write) (key : Key) (going : w′ .opened ≡ true) (few : w′ .asked ≤ commitNumber (suc w)) (whole : 65504 ≤ length (key .tree)) where

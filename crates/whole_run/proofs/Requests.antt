@@ -27,7 +27,8 @@ use Rattle.user_write.specs.declared.call.Write.{Write}
 use Rattle.user.specs.declared.ask.Want.{Want}
 use Rattle.user.specs.Asking.{requestRoom, ofNode, ofStatus, asks}
 use Rattle.user_update.specs.Update.{updateWant}
-use Rattle.user_write.specs.Write.{Key, WriteLent, entryFits, commitNumber, pathDigest, writeKind, writeLevel, writeBody, heldEntry, writeRoom, signsNext, commitSignature, writeSignature}
+use Rattle.firing.specs.Entry.{entryFits}
+use Rattle.user_write.specs.Write.{Key, WriteLent, commitNumber, pathDigest, writeKind, writeLevel, writeBody, heldEntry, writeRoom, signsNext, commitSignature, writeSignature}
 use Rattle.user.proofs.Passed.{by-cond, sent-is}
 
 -- a request's kind and position, read back; its other fields may be of any size

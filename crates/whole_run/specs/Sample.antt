@@ -17,6 +17,8 @@ use Rattle.tree.specs.Setup as Se
 use Rattle.sha256.specs.Bytes as By
 use Rattle.user.specs.Asking as As
 use Rattle.user_update.specs.Update as Up
+use Rattle.firing.specs.Entry as En
+use Rattle.firing.specs.Schedule as Fi
 use Rattle.user_write.specs.Write as Wr
 use Rattle.server.specs.Shape as Sh
 use Rattle.server.specs.Store as St
@@ -74,10 +76,10 @@ puts = Ru.user 1 (Wo.answer reserved) ∷ server-1-reserves
 
 -- Server 1 answers the Status of the empty log, and user 1, whose Update ends at p* = 0, hands out the first Reserve.
 first-reserve : (Ru.run group zeros-first server-1-answers .log ≡ Wo.answered (out asks-server-1) (fresh 1) ∷ []) × (Me.requestKind (out reserves) ≡ 5)
-unfolding Le.leastFrom Le.reaches Le.lg Le.isFull Le.highestFull La.nodesTo La.label La.serverOf La.owner Ex.entryText Ex.leafString Ex.pairString Ex.halfString Ex.value Tr.tree Tr.blockOf Tr.node Co.fits Co.tileLevel Co.tilesIn Co.tiles Co.peaks Co.cover Co.piece Co.cut Co.covers Co.nodesBefore Co.fromCover Co.coverDigest Co.coverPath Co.pathBytes Co.pathWritten Me.requestHeader Me.request Me.answerHeader Me.answer Me.recordHeader Me.stored Me.signedText Se.userCount Se.userKey Se.listed Se.groupFits Se.inLog Se.firstCode By.be By.numberAt By.written By.eqs As.settingsFit As.keptFits As.setupChecks As.requestRoom As.ofNode As.ofStatus As.asks As.headed As.bodyFits As.isAnswer As.answerChecks As.refused As.done As.asking Up.freshUpdate Up.updateAnswers Up.updateEnded Up.updateWant Up.toldPosition Up.toldLevel Up.toldLabel Up.headHolds Up.statusTaken Up.updateNext Up.updateHashes Up.recordHolds Up.coverGivesOwn Up.coverGivesNew Up.updateChecks Up.arrived Up.updateGoes Up.updateRefused Up.updateSetup Up.updateStarted Up.updateEarly Up.updateTaken Wr.strikes Wr.entryFits Wr.targetFits Wr.ownLeaf Wr.commitNumber Wr.writeKind Wr.writeLevel Wr.writeWant Wr.pathDigest Wr.writeBody Wr.writeRefused Wr.heldEntry Wr.writeAsks Wr.writeWaits Wr.writeRoom Wr.writeStartChecks Wr.freshWrite Wr.writeStarted Wr.openingChecks Wr.opening Wr.writeOpens Wr.writeUpdates Wr.signsNext Wr.writeChecks Wr.writeSignature Wr.signing Wr.committed Wr.writeGoes Wr.writeTaken Sh.levelFits Sh.nodeFits Sh.bodyFits Sh.kindFits Sh.requestFits Sh.recordFits St.recordLength St.recordsIn St.records St.sizes St.whole St.isFor St.first St.isStored St.bytesAt St.placeOr Ch.settingsFit Ch.headFits Ch.storeFits Ch.ownsNode Ch.reservable Ch.holdsHead Ch.commitHolds Ch.recordAsked Ch.recordKept Ch.noOther Ch.roomLeft Ch.nodeSource Ch.pullSource Ch.wantedKind Ch.sourceOf Ch.kindChecks Ch.setupChecks Ch.checksOver Ch.requestChecks Sv.headAfter Sv.appends Sv.storeAfter Sv.usedAfter Sv.nodeHash Sv.recordGiven Sv.bodyGiven Sv.headerGiven Sv.answerGiven Sv.refusedSetup Sv.served Sv.replyOf Wo.allHashed Wo.sentBy Wo.sentAfter Wo.unlessRefused Wo.returned Wo.viewSent Wo.afterUpdate Wo.coverStrings Wo.updateHashed Wo.recordAccepted Wo.afterWrite Wo.openingHashed Wo.writeAccepted Wo.writeSigned Wo.newReads Wo.afterRead Wo.readHashed Wo.taking Wo.userStep Ru.newUser Ru.newHead Ru.setup Ru.withUser Ru.serverEvents Ru.withServer Ru.step Ru.run ¬32 SHL SHR ROTR Ch Maj Σ0 Σ1 σ0 σ1 K H0 nextW schedule T1 T2 round rounds sums compress zeros padding pad words block hashValue bytes sha256
+unfolding Le.leastFrom Le.reaches Le.lg Le.isFull Le.highestFull La.nodesTo La.label La.serverOf La.owner Ex.entryText Ex.leafString Ex.pairString Ex.halfString Ex.value Tr.tree Tr.blockOf Tr.node Co.fits Co.tileLevel Co.tilesIn Co.tiles Co.peaks Co.cover Co.piece Co.cut Co.covers Co.nodesBefore Co.fromCover Co.coverDigest Co.coverPath Co.pathBytes Co.pathWritten Me.requestHeader Me.request Me.answerHeader Me.answer Me.recordHeader Me.stored Me.signedText Se.userCount Se.userKey Se.listed Se.groupFits Se.inLog Se.firstCode By.be By.numberAt By.written By.eqs As.settingsFit As.keptFits As.setupChecks As.requestRoom As.ofNode As.ofStatus As.asks As.headed As.bodyFits As.isAnswer As.answerChecks As.refused As.done As.asking Up.freshUpdate Up.updateAnswers Up.updateEnded Up.updateWant Up.toldPosition Up.toldLevel Up.toldLabel Up.headHolds Up.statusTaken Up.updateNext Up.updateHashes Up.recordHolds Up.coverGivesOwn Up.coverGivesNew Up.updateChecks Up.arrived Up.updateGoes Up.updateRefused Up.updateSetup Up.updateStarted Up.updateEarly Up.updateTaken En.strikes En.isSchedule En.entryFits Fi.rulesKept Wr.targetFits Wr.ownLeaf Wr.commitNumber Wr.writeKind Wr.writeLevel Wr.writeWant Wr.pathDigest Wr.writeBody Wr.writeRefused Wr.heldEntry Wr.writeAsks Wr.writeWaits Wr.writeRoom Wr.writeStartChecks Wr.freshWrite Wr.writeStarted Wr.openingChecks Wr.opening Wr.writeOpens Wr.writeUpdates Wr.signsNext Wr.writeChecks Wr.writeSignature Wr.signing Wr.committed Wr.writeGoes Wr.writeTaken Sh.levelFits Sh.nodeFits Sh.bodyFits Sh.kindFits Sh.requestFits Sh.recordFits St.recordLength St.recordsIn St.records St.sizes St.whole St.isFor St.first St.isStored St.bytesAt St.placeOr Ch.settingsFit Ch.headFits Ch.storeFits Ch.ownsNode Ch.reservable Ch.holdsHead Ch.commitHolds Ch.recordAsked Ch.recordKept Ch.noOther Ch.roomLeft Ch.nodeSource Ch.pullSource Ch.wantedKind Ch.sourceOf Ch.kindChecks Ch.setupChecks Ch.checksOver Ch.requestChecks Sv.headAfter Sv.appends Sv.storeAfter Sv.usedAfter Sv.nodeHash Sv.recordGiven Sv.bodyGiven Sv.headerGiven Sv.answerGiven Sv.refusedSetup Sv.served Sv.replyOf Wo.allHashed Wo.sentBy Wo.sentAfter Wo.unlessRefused Wo.returned Wo.viewSent Wo.afterUpdate Wo.coverStrings Wo.updateHashed Wo.recordAccepted Wo.afterWrite Wo.openingHashed Wo.writeAccepted Wo.writeSigned Wo.newReads Wo.afterRead Wo.readHashed Wo.taking Wo.userStep Ru.newUser Ru.newHead Ru.setup Ru.withUser Ru.serverEvents Ru.withServer Ru.step Ru.run ¬32 SHL SHR ROTR Ch Maj Σ0 Σ1 σ0 σ1 K H0 nextW schedule T1 T2 round rounds sums compress zeros padding pad words block hashValue bytes sha256
 first-reserve = (refl, refl)
 
 -- Server 1 accepts it, and user 1 goes on with the PutOperation.
 then-the-operation : (Ru.run group zeros-first server-1-reserves .head .position ≡ 1) × (Me.requestKind (out puts) ≡ 6)
-unfolding Le.leastFrom Le.reaches Le.lg Le.isFull Le.highestFull La.nodesTo La.label La.serverOf La.owner Ex.entryText Ex.leafString Ex.pairString Ex.halfString Ex.value Tr.tree Tr.blockOf Tr.node Co.fits Co.tileLevel Co.tilesIn Co.tiles Co.peaks Co.cover Co.piece Co.cut Co.covers Co.nodesBefore Co.fromCover Co.coverDigest Co.coverPath Co.pathBytes Co.pathWritten Me.requestHeader Me.request Me.answerHeader Me.answer Me.recordHeader Me.stored Me.signedText Se.userCount Se.userKey Se.listed Se.groupFits Se.inLog Se.firstCode By.be By.numberAt By.written By.eqs As.settingsFit As.keptFits As.setupChecks As.requestRoom As.ofNode As.ofStatus As.asks As.headed As.bodyFits As.isAnswer As.answerChecks As.refused As.done As.asking Up.freshUpdate Up.updateAnswers Up.updateEnded Up.updateWant Up.toldPosition Up.toldLevel Up.toldLabel Up.headHolds Up.statusTaken Up.updateNext Up.updateHashes Up.recordHolds Up.coverGivesOwn Up.coverGivesNew Up.updateChecks Up.arrived Up.updateGoes Up.updateRefused Up.updateSetup Up.updateStarted Up.updateEarly Up.updateTaken Wr.strikes Wr.entryFits Wr.targetFits Wr.ownLeaf Wr.commitNumber Wr.writeKind Wr.writeLevel Wr.writeWant Wr.pathDigest Wr.writeBody Wr.writeRefused Wr.heldEntry Wr.writeAsks Wr.writeWaits Wr.writeRoom Wr.writeStartChecks Wr.freshWrite Wr.writeStarted Wr.openingChecks Wr.opening Wr.writeOpens Wr.writeUpdates Wr.signsNext Wr.writeChecks Wr.writeSignature Wr.signing Wr.committed Wr.writeGoes Wr.writeTaken Sh.levelFits Sh.nodeFits Sh.bodyFits Sh.kindFits Sh.requestFits Sh.recordFits St.recordLength St.recordsIn St.records St.sizes St.whole St.isFor St.first St.isStored St.bytesAt St.placeOr Ch.settingsFit Ch.headFits Ch.storeFits Ch.ownsNode Ch.reservable Ch.holdsHead Ch.commitHolds Ch.recordAsked Ch.recordKept Ch.noOther Ch.roomLeft Ch.nodeSource Ch.pullSource Ch.wantedKind Ch.sourceOf Ch.kindChecks Ch.setupChecks Ch.checksOver Ch.requestChecks Sv.headAfter Sv.appends Sv.storeAfter Sv.usedAfter Sv.nodeHash Sv.recordGiven Sv.bodyGiven Sv.headerGiven Sv.answerGiven Sv.refusedSetup Sv.served Sv.replyOf Wo.allHashed Wo.sentBy Wo.sentAfter Wo.unlessRefused Wo.returned Wo.viewSent Wo.afterUpdate Wo.coverStrings Wo.updateHashed Wo.recordAccepted Wo.afterWrite Wo.openingHashed Wo.writeAccepted Wo.writeSigned Wo.newReads Wo.afterRead Wo.readHashed Wo.taking Wo.userStep Ru.newUser Ru.newHead Ru.setup Ru.withUser Ru.serverEvents Ru.withServer Ru.step Ru.run ¬32 SHL SHR ROTR Ch Maj Σ0 Σ1 σ0 σ1 K H0 nextW schedule T1 T2 round rounds sums compress zeros padding pad words block hashValue bytes sha256
+unfolding Le.leastFrom Le.reaches Le.lg Le.isFull Le.highestFull La.nodesTo La.label La.serverOf La.owner Ex.entryText Ex.leafString Ex.pairString Ex.halfString Ex.value Tr.tree Tr.blockOf Tr.node Co.fits Co.tileLevel Co.tilesIn Co.tiles Co.peaks Co.cover Co.piece Co.cut Co.covers Co.nodesBefore Co.fromCover Co.coverDigest Co.coverPath Co.pathBytes Co.pathWritten Me.requestHeader Me.request Me.answerHeader Me.answer Me.recordHeader Me.stored Me.signedText Se.userCount Se.userKey Se.listed Se.groupFits Se.inLog Se.firstCode By.be By.numberAt By.written By.eqs As.settingsFit As.keptFits As.setupChecks As.requestRoom As.ofNode As.ofStatus As.asks As.headed As.bodyFits As.isAnswer As.answerChecks As.refused As.done As.asking Up.freshUpdate Up.updateAnswers Up.updateEnded Up.updateWant Up.toldPosition Up.toldLevel Up.toldLabel Up.headHolds Up.statusTaken Up.updateNext Up.updateHashes Up.recordHolds Up.coverGivesOwn Up.coverGivesNew Up.updateChecks Up.arrived Up.updateGoes Up.updateRefused Up.updateSetup Up.updateStarted Up.updateEarly Up.updateTaken En.strikes En.isSchedule En.entryFits Fi.rulesKept Wr.targetFits Wr.ownLeaf Wr.commitNumber Wr.writeKind Wr.writeLevel Wr.writeWant Wr.pathDigest Wr.writeBody Wr.writeRefused Wr.heldEntry Wr.writeAsks Wr.writeWaits Wr.writeRoom Wr.writeStartChecks Wr.freshWrite Wr.writeStarted Wr.openingChecks Wr.opening Wr.writeOpens Wr.writeUpdates Wr.signsNext Wr.writeChecks Wr.writeSignature Wr.signing Wr.committed Wr.writeGoes Wr.writeTaken Sh.levelFits Sh.nodeFits Sh.bodyFits Sh.kindFits Sh.requestFits Sh.recordFits St.recordLength St.recordsIn St.records St.sizes St.whole St.isFor St.first St.isStored St.bytesAt St.placeOr Ch.settingsFit Ch.headFits Ch.storeFits Ch.ownsNode Ch.reservable Ch.holdsHead Ch.commitHolds Ch.recordAsked Ch.recordKept Ch.noOther Ch.roomLeft Ch.nodeSource Ch.pullSource Ch.wantedKind Ch.sourceOf Ch.kindChecks Ch.setupChecks Ch.checksOver Ch.requestChecks Sv.headAfter Sv.appends Sv.storeAfter Sv.usedAfter Sv.nodeHash Sv.recordGiven Sv.bodyGiven Sv.headerGiven Sv.answerGiven Sv.refusedSetup Sv.served Sv.replyOf Wo.allHashed Wo.sentBy Wo.sentAfter Wo.unlessRefused Wo.returned Wo.viewSent Wo.afterUpdate Wo.coverStrings Wo.updateHashed Wo.recordAccepted Wo.afterWrite Wo.openingHashed Wo.writeAccepted Wo.writeSigned Wo.newReads Wo.afterRead Wo.readHashed Wo.taking Wo.userStep Ru.newUser Ru.newHead Ru.setup Ru.withUser Ru.serverEvents Ru.withServer Ru.step Ru.run ¬32 SHL SHR ROTR Ch Maj Σ0 Σ1 σ0 σ1 K H0 nextW schedule T1 T2 round rounds sums compress zeros padding pad words block hashValue bytes sha256
 then-the-operation = (refl, refl)
