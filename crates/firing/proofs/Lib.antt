@@ -3,3 +3,4 @@ pub mod Signed
 pub mod Entries
 pub mod Segments
 pub mod Schedules
+pub mod Firings

@@ -1,26 +1,30 @@
 -- Firings: their layout by the way through its tests, and the walk over their segments.
-use mathlib.Core.Path.{_≡_, refl, sym, ap, subst, _∙_}
-use mathlib.Core.Bool.{Bool, true, false, cond, not, _&&_, _||_, and-eq-true-iff}
-use mathlib.Core.List.{List, [], _∷_}
+use mathlib.Core.Path.{_≡_, refl, sym, ap, _∙_}
+use mathlib.Core.Bool.{true, false, cond, and-eq-true-iff}
+use mathlib.Core.List.{List, _∷_}
 use Prim.Native.Nat.{ℕ, zero, suc, _+_, _-_, _*_, max, _≤_, _<_}
 use native.Mathlib.Nat.{max-zero, zero-max, max-le, le-max-left, le-max-right, le-trans, le-antisymm, zero-add}
 use native.Mathlib.Omega.{arith}
 use lib.Dec.{eqb, leb}
 use lib.ListN.{length, drop, getD}
 use lib.Seq.{drop-drop}
-use borrow.Author.Tests.{lt-leb, le-leb, leb-true, eqb-true, ne-eqb, eq-eqb}
+use borrow.Author.Tests.{lt-leb, le-leb, leb-true, eqb-true, ne-eqb}
 use Rattle.sha256.proofs.Cases.{by-bool}
 use Rattle.firing.specs.declared.segment.Segment.{Segment}
+use Rattle.firing.specs.declared.schedule.Firing.{Firing}
 use Rattle.firing.specs.Entry.{strikes, isSchedule, entryFits}
-use Rattle.firing.specs.Schedule.{segmentOf, segmentsIn, segmentCount, segments, laidOut, segmentFits, segmentsFit, segmentMinutes, total, peak, start, scheduleFits, rulesKept, reportCode, unreported, reported}
-use Rattle.firing.proofs.Segments.{Kept, kept, segment-most}
+use Rattle.firing.specs.Schedule.{segmentOf, segmentsIn, segmentCount, segments, laidOut, segmentFits, segmentsFit, segmentMinutes}
+use Rattle.firing.specs.Schedule.{total, peak, start, scheduleFits, rulesKept, reportCode, unreported, reported}
+use Rattle.firing.proofs.Segments.{kept, segment-most}
 
 -- the highest of three
 highest : (a b c : ℕ) → max a (max b c) ≡ max (max a b) c
 highest a b c =
     le-antisymm
-    (max-le (le-trans (le-max-left a b) (le-max-left (max a b) c)) (max-le (le-trans (le-max-right a b) (le-max-left (max a b) c)) (le-max-right (max a b) c)))
-    (max-le (max-le (le-max-left a (max b c)) (le-trans (le-max-left b c) (le-max-right a (max b c)))) (le-trans (le-max-right b c) (le-max-right a (max b c))))
+    (max-le (le-trans (le-max-left a b) (le-max-left (max a b) c))
+    (max-le (le-trans (le-max-right a b) (le-max-left (max a b) c)) (le-max-right (max a b) c)))
+    (max-le (max-le (le-max-left a (max b c)) (le-trans (le-max-left b c) (le-max-right a (max b c))))
+    (le-trans (le-max-right b c) (le-max-right a (max b c))))
 
 module _ (entry : List ℕ) where
   module _ (first : ℕ) (ef : first ≡ getD entry 0 0) where
@@ -91,13 +95,15 @@ module _ (entry : List ℕ) where
 
   module _ (left at before minutes high : ℕ) (w : Walk left at before minutes high) where
     -- no segment is left
-    pub ended : left ≡ 0 → (segmentsFit start (segments entry) ≡ true) × (minutes ≡ total start (segments entry)) × (high ≡ peak (segments entry))
+    pub ended : left ≡ 0
+        → (segmentsFit start (segments entry) ≡ true) × (minutes ≡ total start (segments entry)) × (high ≡ peak (segments entry))
     unfolding segmentsIn segmentsFit total peak
     ended z =
-        let none = ap (λ (n : ℕ). segmentsIn n (drop at entry)) z in
-        (w .fits ∙ rw none,
-         sym (w .minutes-are ∙ rw none (omega arith)),
-         sym (w .peak-is ∙ rw none (max-zero high)))
+        let none = ap (λ (n : ℕ). segmentsIn n (drop at entry)) z in (
+          w .fits ∙ rw none,
+          sym (w .minutes-are ∙ rw none (omega arith)),
+          sym (w .peak-is ∙ rw none (max-zero high)),
+        )
 
     module _ (more : 0 < left) (s : Segment) (es : s ≡ segmentOf (drop at entry)) where
       abbrev behind : List Segment
@@ -168,8 +174,8 @@ module _ (entry : List ℕ) where
   pub code-is : reported entry .code ≡ reportCode entry
   unfolding reported unreported
   code-is =
-      by-bool (λ t. cond t (record { code = 0; minutes = total start (segments entry); peak = peak (segments entry) }) (unreported (reportCode entry)) .code ≡ reportCode entry)
-      (eqb (reportCode entry) 0)
+      let runs : Firing = record { code = 0; minutes = total start (segments entry); peak = peak (segments entry) } in
+      by-bool (λ t. cond t runs (unreported (reportCode entry)) .code ≡ reportCode entry) (eqb (reportCode entry) 0)
       (λ e. sym (eqb-true (reportCode entry) 0 e))
       (λ e. refl)
 

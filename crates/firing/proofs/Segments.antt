@@ -1,12 +1,12 @@
 -- One segment: its rules by the way through their tests, and how long it lasts.
-use mathlib.Core.Path.{_≡_, refl, sym, ap, _∙_}
-use mathlib.Core.Bool.{Bool, true, false, cond, _&&_, and-eq-true-iff}
-use Prim.Native.Nat.{ℕ, zero, suc, _+_, _-_, _*_, _/_, _≤_, _<_}
+use mathlib.Core.Path.{_≡_, _∙_}
+use mathlib.Core.Bool.{Bool, true, false, cond, and-eq-true-iff}
+use Prim.Native.Nat.{ℕ, suc, _+_, _-_, _*_, _/_, _≤_, _<_}
 use native.Mathlib.Nat.{mul-suc, suc-mul, div-mul-le-self, lt-div-mul-add, div-lt-iff-lt-mul}
 use native.Mathlib.Omega.{arith}
-use lib.Dec.{eqb, leb, ltb}
-use lib.IntN.{ℤ, pos, negsuc, natAbs, subℕ, _-ℤ_}
-use borrow.Author.Tests.{lt-leb, le-leb, leb-true, eqb-true, eqb-false, eq-eqb, ne-eqb, ltb-true, ltb-false}
+use lib.Dec.{eqb, ltb}
+use lib.IntN.{pos, negsuc, natAbs, _-ℤ_}
+use borrow.Author.Tests.{lt-leb, le-leb, leb-true, eqb-false, eq-eqb, ne-eqb, ltb-true, ltb-false}
 use Rattle.sha256.proofs.Cases.{by-bool}
 use Rattle.firing.specs.declared.segment.Segment.{Segment}
 use Rattle.firing.specs.Schedule.{change, sameSign, segmentFits, roundedUp, segmentMinutes}
@@ -24,7 +24,8 @@ rounded-least a b h = omega (arith, div-mul-le-self (a + (b - 1)) b)
 pub rounded-most : (a b : ℕ) → 0 < b → roundedUp a b ≤ a
 unfolding roundedUp
 rounded-most a (suc b) h =
-    let i = div-lt-iff-lt-mul {k = suc b} {x = a + (suc b - 1)} {y = suc a} (omega arith) .1 (omega (arith, mul-suc (suc a) b, suc-mul a b)) in
+    let below : a + (suc b - 1) < suc a * suc b = omega (arith, mul-suc (suc a) b, suc-mul a b) in
+    let less = div-lt-iff-lt-mul {k = suc b} {x = a + (suc b - 1)} {y = suc a} (omega arith) .1 below in
     omega arith
 
 -- the difference of two temperatures is no greater than the span that both lie in
@@ -105,5 +106,5 @@ segment-most before s least most k =
     (eqb (natAbs (s .rate)) 0)
     (λ e. omega arith)
     (λ e.
-      let n = eqb-false (natAbs (s .rate)) 0 e in
-      omega (arith, rounded-most (60 * natAbs (change before s)) (natAbs (s .rate)) (omega arith)))
+    let n = eqb-false (natAbs (s .rate)) 0 e in
+    omega (arith, rounded-most (60 * natAbs (change before s)) (natAbs (s .rate)) (omega arith)))

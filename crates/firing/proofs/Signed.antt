@@ -1,6 +1,6 @@
 -- Signed numbers and the bits that the machine holds for them: widening, differences of two counts, sizes and signs.
 use mathlib.Core.Path.{_≡_, refl, sym, ap, subst, _∙_}
-use mathlib.Core.Bool.{Bool, true, false, cond, _&&_, _||_}
+use mathlib.Core.Bool.{true, false, cond}
 use Prim.Native.Nat.{ℕ, zero, suc, _+_, _-_, _≤_, _<_}
 use native.Mathlib.Omega.{arith}
 use lib.Dec.{T, eqb, leb, ltb}
@@ -8,7 +8,7 @@ use lib.IntN.{ℤ, pos, negsuc, negℤ, natAbs, subℕ, _+ℤ_, _-ℤ_, +ℤ-idl
 use lib.Signed.{ltZ, nonNeg}
 use mir.Syntax.{Width, w16, w32, w64}
 use mir.Val.{Fits, SFits, hbits, bits, toZ, ofZ}
-use mir.Facts.{sfits-widen, toZ-ofZ, toZ-pos, fits-natAbs}
+use mir.Facts.{sfits-widen, toZ-ofZ, toZ-pos}
 use borrow.Author.Tests.{ltb-true, ltb-false, lt-ltb, le-ltb, ne-eqb, eq-eqb}
 use Rattle.sha256.proofs.Cases.{by-bool}
 use Rattle.firing.specs.Schedule.{twosComplement, sameSign}
@@ -49,7 +49,7 @@ unfolding twosComplement
 low-half n low = toZ-pos w16 {n = n} (omega arith) ∙ rw (lt-ltb n 32768 low)
 
 module _ (n : ℕ) (high : 32768 ≤ n) (f : n < 65536) where
-  lowered : pos n -ℤ pos 65536 ≡ negsuc (65535 - n)
+  pub lowered : pos n -ℤ pos 65536 ≡ negsuc (65535 - n)
   lowered = pos-minus n 65536 ∙ rw (lt-ltb n 65536 f) (ap negsuc (omega arith))
 
   narrow-fits : SFits w16 (pos n -ℤ pos 65536)

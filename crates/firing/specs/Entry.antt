@@ -1,5 +1,5 @@
--- Document 01, 'User': "Entry: byte 1 and text inserts; byte 2 and a position (4 bytes, exactly 5 in all) strikes." Document 02, d: "Entries
--- with first byte 3 hold a firing."
+-- Document 01, 'User': "Entry: byte 1 and text inserts; byte 2 and a position (4 bytes, exactly 5 in all) strikes." Document 02, d:
+-- "Entries with first byte 3 hold a firing."
 use mathlib.Core.Bool.{Bool, cond, _&&_, _||_}
 use mathlib.Core.List.{List}
 use Prim.Native.Nat.{ℕ}

@@ -7,7 +7,9 @@ use lib.IntN.{pos, negsuc}
 use lib.ListN.{replicate}
 use Rattle.sha256.specs.Bytes.{numberAt}
 use Rattle.firing.specs.Entry.{strikes, isSchedule, entryFits, targetOf}
-use Rattle.firing.specs.Schedule.{twosComplement, segmentOf, segmentsIn, segmentCount, segments, laidOut, change, sameSign, segmentFits, segmentsFit, roundedUp, segmentMinutes, total, peak, scheduleFits, rulesKept, reportCode, reported}
+use Rattle.firing.specs.Schedule.{twosComplement, segmentOf, segmentsIn, segmentCount, segments, laidOut, change, sameSign}
+use Rattle.firing.specs.Schedule.{segmentFits, segmentsFit, roundedUp, segmentMinutes, total, peak, scheduleFits, rulesKept}
+use Rattle.firing.specs.Schedule.{reportCode, reported}
 
 -- "Entries of 1,024 and 1,025 bytes: taken, 19."
 entries-of-1024-and-1025 : (entryFits (1 ∷ replicate 1023 65) ≡ true) × (entryFits (1 ∷ replicate 1024 65) ≡ false)
@@ -21,7 +23,8 @@ unfolding entryFits strikes isSchedule
 entry-shapes = (refl, refl, refl, refl, refl, refl)
 
 -- On the board a strike has its target, and a text and a schedule have 0.
-board-targets : (targetOf (2 ∷ 0 ∷ 0 ∷ 1 ∷ 7 ∷ []) ≡ 263) × (targetOf (1 ∷ 0 ∷ 0 ∷ 1 ∷ 7 ∷ []) ≡ 0) × (targetOf (3 ∷ 0 ∷ 0 ∷ 1 ∷ 7 ∷ []) ≡ 0)
+board-targets : (targetOf (2 ∷ 0 ∷ 0 ∷ 1 ∷ 7 ∷ []) ≡ 263) × (targetOf (1 ∷ 0 ∷ 0 ∷ 1 ∷ 7 ∷ []) ≡ 0)
+    × (targetOf (3 ∷ 0 ∷ 0 ∷ 1 ∷ 7 ∷ []) ≡ 0)
 unfolding targetOf strikes numberAt
 board-targets = (refl, refl, refl)
 
@@ -34,30 +37,23 @@ two-bytes = (refl, refl, refl)
 abbrev bisque : List ℕ
 bisque = 3 ∷ 2 ∷ 0 ∷ 100 ∷ 3 ∷ 182 ∷ 0 ∷ 20 ∷ 255 ∷ 106 ∷ 2 ∷ 88 ∷ 0 ∷ 0 ∷ []
 
-bisque-report : reported bisque ≡ record { code = 0; minutes = 718; peak = 950 }
-unfolding reported reportCode scheduleFits laidOut segments segmentsIn segmentCount segmentOf segmentsFit segmentFits segmentMinutes roundedUp change sameSign total peak twosComplement numberAt entryFits strikes isSchedule
-bisque-report = refl
-
 -- Sixteen segments between 20 and 1,350 °C at 1 °C an hour, each with the longest hold: no firing lasts longer.
-abbrev rounds : ℕ → List ℕ
-rounds zero = []
-rounds (suc n) = 0 ∷ 1 ∷ 5 ∷ 70 ∷ 23 ∷ 111 ∷ 255 ∷ 255 ∷ 0 ∷ 20 ∷ 23 ∷ 111 ∷ rounds n
+abbrev upAndDown : ℕ → List ℕ
+upAndDown zero = []
+upAndDown (suc n) = 0 ∷ 1 ∷ 5 ∷ 70 ∷ 23 ∷ 111 ∷ 255 ∷ 255 ∷ 0 ∷ 20 ∷ 23 ∷ 111 ∷ upAndDown n
 
-longest-report : reported (3 ∷ 16 ∷ rounds 8) ≡ record { code = 0; minutes = 1372784; peak = 1350 }
-unfolding reported reportCode scheduleFits laidOut segments segmentsIn segmentCount segmentOf segmentsFit segmentFits segmentMinutes roundedUp change sameSign total peak twosComplement numberAt entryFits strikes isSchedule
-longest-report = refl
-
--- From 20 to 21 °C at 7 °C an hour is 8 4/7 minutes, reported as 9; a first target of 20 has rate 0 and lasts its hold.
-short-reports : (reported (3 ∷ 1 ∷ 0 ∷ 7 ∷ 0 ∷ 21 ∷ 0 ∷ 0 ∷ []) ≡ record { code = 0; minutes = 9; peak = 21 })
+-- The two above; from 20 to 21 °C at 7 °C an hour, which is 8 4/7 minutes and reported as 9; and a first target of 20, which has rate 0 and
+-- lasts its hold. 26: 100 °C an hour from 950 to 600; a segment of which a byte is missing; a text. 19: a strike of 6 bytes.
+reports : (reported bisque ≡ record { code = 0; minutes = 718; peak = 950 })
+    × (reported (3 ∷ 16 ∷ upAndDown 8) ≡ record { code = 0; minutes = 1372784; peak = 1350 })
+    × (reported (3 ∷ 1 ∷ 0 ∷ 7 ∷ 0 ∷ 21 ∷ 0 ∷ 0 ∷ []) ≡ record { code = 0; minutes = 9; peak = 21 })
     × (reported (3 ∷ 1 ∷ 0 ∷ 0 ∷ 0 ∷ 20 ∷ 0 ∷ 30 ∷ []) ≡ record { code = 0; minutes = 30; peak = 20 })
+    × (reportCode (3 ∷ 2 ∷ 0 ∷ 100 ∷ 3 ∷ 182 ∷ 0 ∷ 20 ∷ 0 ∷ 100 ∷ 2 ∷ 88 ∷ 0 ∷ 0 ∷ []) ≡ 26)
+    × (reportCode (3 ∷ 1 ∷ 0 ∷ 7 ∷ 0 ∷ 21 ∷ 0 ∷ []) ≡ 26)
+    × (reportCode (1 ∷ 65 ∷ []) ≡ 26)
+    × (reportCode (2 ∷ 0 ∷ 0 ∷ 0 ∷ 7 ∷ 0 ∷ []) ≡ 19)
 unfolding reported reportCode scheduleFits laidOut segments segmentsIn segmentCount segmentOf segmentsFit segmentFits segmentMinutes roundedUp change sameSign total peak twosComplement numberAt entryFits strikes isSchedule
-short-reports = (refl, refl)
-
--- 26: 100 °C an hour from 950 to 600, a segment of which a byte is missing, a text; 19: a strike of 6 bytes
-refusals : (reportCode (3 ∷ 2 ∷ 0 ∷ 100 ∷ 3 ∷ 182 ∷ 0 ∷ 20 ∷ 0 ∷ 100 ∷ 2 ∷ 88 ∷ 0 ∷ 0 ∷ []) ≡ 26)
-    × (reportCode (3 ∷ 1 ∷ 0 ∷ 7 ∷ 0 ∷ 21 ∷ 0 ∷ []) ≡ 26) × (reportCode (1 ∷ 65 ∷ []) ≡ 26) × (reportCode (2 ∷ 0 ∷ 0 ∷ 0 ∷ 7 ∷ 0 ∷ []) ≡ 19)
-unfolding reportCode scheduleFits laidOut segments segmentsIn segmentCount segmentOf segmentsFit segmentFits change sameSign twosComplement numberAt entryFits strikes isSchedule
-refusals = (refl, refl, refl, refl)
+reports = (refl, refl, refl, refl, refl, refl, refl, refl)
 
 -- 26 in a Write: a text passes, a schedule with no segment does not.
 written-entries : (rulesKept (1 ∷ 65 ∷ []) ≡ true) × (rulesKept (3 ∷ 0 ∷ []) ≡ false)

@@ -15,7 +15,8 @@ use Rattle.firing.specs.Entry.{entryFits, isSchedule}
 unfoldable pub twosComplement : ℕ → ℤ
 twosComplement n = cond (ltb n 32768) (pos n) (pos n -ℤ pos 65536)
 
--- "per segment 6 bytes, 2 for each: signed rate in °C per hour (negative when cooling) in two's complement, target in °C, hold in minutes"
+-- "per segment 6 bytes, 2 for each: signed rate in °C per hour (negative when cooling) in two's complement, target in °C, hold in
+-- minutes"
 unfoldable pub segmentOf : List ℕ → Segment
 segmentOf s = record { rate = twosComplement (numberAt 2 s 0); target = numberAt 2 s 2; hold = numberAt 2 s 4 }
 
@@ -23,8 +24,8 @@ unfoldable pub segmentsIn : ℕ → List ℕ → List Segment
 segmentsIn zero s = []
 segmentsIn (suc n) s = segmentOf s ∷ segmentsIn n (drop 6 s)
 
--- "Entries with first byte 3 hold a firing: a segment count (1 byte) from 1 to 16, then per segment 6 bytes". "The entry ends with its last
--- segment."
+-- "Entries with first byte 3 hold a firing: a segment count (1 byte) from 1 to 16, then per segment 6 bytes". "The entry ends with its
+-- last segment."
 unfoldable pub segmentCount : List ℕ → ℕ
 segmentCount entry = getD entry 1 0
 
@@ -44,8 +45,8 @@ unfoldable pub sameSign : ℤ → ℤ → Bool
 sameSign a b =
     (ltZ a (pos 0) && ltZ b (pos 0)) || ((ltZ (pos 0) a && ltZ (pos 0) b) || (eqb (natAbs a) 0 && eqb (natAbs b) 0))
 
--- "Rates lie in -600..600, targets in 20..1,350, holds in 0..5,999." "The rate has the sign of target minus the temperature before, and is 0
--- exactly if they are equal."
+-- "Rates lie in -600..600, targets in 20..1,350, holds in 0..5,999." "The rate has the sign of target minus the temperature before, and
+-- is 0 exactly if they are equal."
 unfoldable pub segmentFits : ℕ → Segment → Bool
 segmentFits before s =
     leb (natAbs (s .rate)) 600
@@ -85,7 +86,8 @@ scheduleFits entry = laidOut entry && segmentsFit start (segments entry)
 unfoldable pub rulesKept : List ℕ → Bool
 rulesKept entry = not (isSchedule entry) || scheduleFits entry
 
--- "26, a schedule against these rules or a report asked on another first byte, directly after 19's shape check". A refusal reports 0 twice.
+-- "26, a schedule against these rules or a report asked on another first byte, directly after 19's shape check". With a refusal, minutes
+-- and peak are 0.
 unfoldable pub reportCode : List ℕ → ℕ
 reportCode entry = cond (entryFits entry) (cond (scheduleFits entry) 0 26) 19
 

@@ -1,7 +1,5 @@
 // A firing: its segments in order, from a kiln at 20 °C, with its total time and its peak.
 ghost use mathlib.Core.Path.{_≡_};
-ghost use mathlib.Core.Bool.{cond};
-ghost use lib.Dec.{leb};
 ghost use Prim.Native.Nat.{_+_, _*_, max};
 ghost use Rattle.firing.specs.Schedule.{laidOut, rulesKept, reported, unreported};
 use super::entry;

@@ -1,11 +1,9 @@
-use Rattle.firing.specs.Entry.{targetOf, strikes}
 use mathlib.Core.Path.{_∙_}
-use borrow.Author.Tests.{eq-eqb, ne-eqb}
+use borrow.Author.Tests.{ne-eqb}
 use borrow.Author.Needs.{needs}
+use Rattle.firing.specs.Entry.{targetOf, strikes}
 use Rattle.firing.proofs.entry.target.Statement.{statement}
 use Rattle.firing.proofs.entry.target.Tie as tie
-use Rattle.sha256.proofs.bytes.byte_at.Reads as byte-at-reads
-use Rattle.sha256.proofs.bytes.u32_at.Reads as u32-at-reads
 
 byte-at-requires : tie.Need-byte-at-requires
 byte-at-requires c κs = search needs

@@ -1,5 +1,5 @@
-use Rattle.firing.specs.Schedule.{unreported}
 use mathlib.Core.Path.{refl}
+use Rattle.firing.specs.Schedule.{unreported}
 use Rattle.firing.proofs.schedule.refused.Statement.{statement}
 use Rattle.firing.proofs.schedule.refused.Tie as tie
 

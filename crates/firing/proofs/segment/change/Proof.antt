@@ -1,7 +1,7 @@
 use native.Mathlib.Omega.{arith}
+use borrow.Author.Needs.{needs}
 use Rattle.firing.specs.Schedule.{change}
 use Rattle.firing.proofs.Signed.{difference-fits, difference}
-use borrow.Author.Needs.{needs}
 use Rattle.firing.proofs.segment.change.Statement.{statement}
 use Rattle.firing.proofs.segment.change.Tie as tie
 
@@ -12,11 +12,17 @@ cast-result-2 : tie.Need-cast-result-2
 cast-result-2 c = search needs
 
 sub-result : tie.Need-sub-result
-sub-result c = let t = c .struct-known .given in let b = c .before .fits .before .fits in difference-fits (c .before .args .s .target) (c .before .args .before) (omega arith) (omega arith)
+sub-result c =
+    let t = c .struct-known .given in
+    let b = c .before .fits .before .fits in
+    difference-fits (c .before .args .s .target) (c .before .args .before) (omega arith) (omega arith)
 
 returns : tie.Need-returns
 unfolding change
-returns c = let t = c .struct-known .given in let b = c .before .fits .before .fits in difference (c .before .args .s .target) (c .before .args .before) (omega arith) (omega arith)
+returns c =
+    let t = c .struct-known .given in
+    let b = c .before .fits .before .fits in
+    difference (c .before .args .s .target) (c .before .args .before) (omega arith) (omega arith)
 
 pub change-spec : {M : Type 1} → statement M
 change-spec = tie.close (tie.spec cast-result cast-result-2 sub-result returns)

@@ -1,11 +1,9 @@
 use mir.Facts.{toZ-ofZ}
 use mir.Syntax.{w16}
-use Rattle.firing.specs.Schedule.{segmentOf}
 use borrow.Author.Needs.{needs}
+use Rattle.firing.specs.Schedule.{segmentOf}
 use Rattle.firing.proofs.segment.first.Statement.{statement}
 use Rattle.firing.proofs.segment.first.Tie as tie
-use Rattle.firing.proofs.segment.signed.Reads as signed-reads
-use Rattle.sha256.proofs.bytes.u16_at.Reads as u16-at-reads
 
 u16-at-requires : tie.Need-u16-at-requires
 u16-at-requires c κs = search needs
@@ -21,8 +19,11 @@ u16-at-requires-3 c κs = search needs
 
 returns : tie.Need-returns
 unfolding segmentOf
-returns c =     let kept = toZ-ofZ {w = w16} {z = c .before .before .signed .result} (record { sfits = c .before .before .signed .ok }) in
-    rw (kept, c .u16-at3 .ensures, c .before .u16-at2 .ensures, c .before .before .signed .ensures, c .before .before .before .u16-at .ensures)
+returns c =
+    let u16-at = c .before .before .before .u16-at .ensures in
+    let signed = c .before .before .signed in
+    let kept = toZ-ofZ {w = w16} {z = signed .result} (record { sfits = signed .ok }) in
+    rw (kept, c .u16-at3 .ensures, c .before .u16-at2 .ensures, signed .ensures, u16-at)
 
 pub first-spec : {M : Type 1} → statement M
 first-spec =

@@ -1,16 +1,13 @@
+use mathlib.Core.Path.{_≡_, ap, _∙_}
+use Prim.Native.Nat.{_≤_}
+use lib.IntN.{natAbs}
 use mir.Facts.{toZ-ofZ}
+use mir.Syntax.{w16, w32}
+use borrow.Author.Needs.{needs}
 use Rattle.firing.proofs.Segments.{rate-out, target-low, target-high, hold-long, sign-decides}
 use Rattle.firing.proofs.Signed.{widens, widened}
-use mir.Syntax.{w16, w32}
-use lib.IntN.{natAbs}
-use Prim.Native.Nat.{ℕ, _<_, _≤_}
-use mathlib.Core.Path.{ap, sym, _∙_, subst}
-use borrow.Author.Needs.{needs}
 use Rattle.firing.proofs.segment.fits.Statement.{statement}
 use Rattle.firing.proofs.segment.fits.Tie as tie
-use Rattle.firing.proofs.segment.change.Reads as change-reads
-use Rattle.firing.proofs.segment.same_sign.Reads as same-sign-reads
-use Rattle.firing.proofs.segment.size.Reads as size-reads
 
 cast-rate : tie.Need-cast-rate
 cast-rate c = widens w16 w32 (c .before .before .args .s .rate) tt (record { sfits = c .struct-told .given .0 .1 })
@@ -18,17 +15,33 @@ cast-rate c = widens w16 w32 (c .before .before .args .s .rate) tt (record { sfi
 size-requires : tie.Need-size-requires
 size-requires c κs = search needs
 
+-- the size that was measured is that of the rate
+rate-size : (c : tie.After-size) → c .size .result ≡ natAbs (c .before .before .before .args .s .rate)
+rate-size c =
+    let fits = c .before .struct-told .given .0 .1 in
+    c .size .ensures ∙ ap natAbs (widened w16 w32 (c .before .before .before .args .s .rate) tt (record { sfits = fits }))
+
 returns : tie.Need-returns
-returns c = rate-out _ _ (rw (← c .before .size .ensures ∙ ap natAbs (widened w16 w32 (c .before .before .before .before .args .s .rate) tt (record { sfits = c .before .before .struct-told .given .0 .1 }))) (c .if1 .taken))
+returns c = rate-out _ _ (rw (← rate-size (c .before)) (c .if1 .taken))
 
 returns-2 : tie.Need-returns-2
-returns-2 c = target-low _ _ (rw (← c .before .before .before .size .ensures ∙ ap natAbs (widened w16 w32 (c .before .before .before .before .before .before .args .s .rate) tt (record { sfits = c .before .before .before .before .struct-told .given .0 .1 }))) (c .before .before .if1 .left)) (c .if2 .taken)
+returns-2 c = target-low _ _ (rw (← rate-size (c .before .before .before)) (c .before .before .if1 .left)) (c .if2 .taken)
 
 returns-3 : tie.Need-returns-3
-returns-3 c = target-high _ _ (rw (← c .before .before .before .before .before .size .ensures ∙ ap natAbs (widened w16 w32 (c .before .before .before .before .before .before .before .before .args .s .rate) tt (record { sfits = c .before .before .before .before .before .before .struct-told .given .0 .1 }))) (c .before .before .before .before .if1 .left)) (c .before .before .if2 .left) (c .if3 .taken)
+returns-3 c =
+    let if1-left = c .before .before .before .before .if1 .left in
+    let if2-left = c .before .before .if2 .left in
+    target-high _ _ (rw (← rate-size (c .before .before .before .before .before)) if1-left) if2-left (c .if3 .taken)
 
 returns-4 : tie.Need-returns-4
-returns-4 c = hold-long _ _ (rw (← c .before .before .before .before .before .before .before .size .ensures ∙ ap natAbs (widened w16 w32 (c .before .before .before .before .before .before .before .before .before .before .args .s .rate) tt (record { sfits = c .before .before .before .before .before .before .before .before .struct-told .given .0 .1 }))) (c .before .before .before .before .before .before .if1 .left)) (c .before .before .before .before .if2 .left) (c .before .before .if3 .left) (c .if4 .taken)
+returns-4 c =
+    let c8 = c .before .before .before .before .before .before .before .before in
+    let args = c8 .before .before .args in
+    let if1-left = c .before .before .before .before .before .before .if1 .left in
+    let if2-left = c .before .before .before .before .if2 .left in
+    let if3-left = c .before .before .if3 .left in
+    let slow : natAbs (args .s .rate) ≤ 600 = rw (← rate-size (c .before .before .before .before .before .before .before)) if1-left in
+    hold-long _ _ slow if2-left if3-left (c .if4 .taken)
 
 change-requires : tie.Need-change-requires
 change-requires c κs = search needs
@@ -37,7 +50,19 @@ same-sign-requires : tie.Need-same-sign-requires
 same-sign-requires c κs = search needs
 
 returns-5 : tie.Need-returns-5
-returns-5 c = sign-decides _ _ (rw (← c .before .before .before .before .before .before .before .before .before .size .ensures ∙ ap natAbs (widened w16 w32 (c .before .before .before .before .before .before .before .before .before .before .before .before .args .s .rate) tt (record { sfits = c .before .before .before .before .before .before .before .before .before .before .struct-told .given .0 .1 }))) (c .before .before .before .before .before .before .before .before .if1 .left)) (c .before .before .before .before .before .before .if2 .left) (c .before .before .before .before .if3 .left) _ (c .before .before .if4 .left) (c .same-sign .ensures ∙ rw (widened w16 w32 (c .before .before .before .before .before .before .before .before .before .before .before .before .args .s .rate) tt (record { sfits = c .before .before .before .before .before .before .before .before .before .before .struct-told .given .0 .1 }), toZ-ofZ {w = w32} {z = c .before .change .result} (record { sfits = c .before .change .ok }), c .before .change .ensures))
+returns-5 c =
+    let c8 = c .before .before .before .before .before .before .before .before in
+    let if1-left = c8 .if1 .left in
+    let if2-left = c .before .before .before .before .before .before .if2 .left in
+    let if3-left = c .before .before .before .before .if3 .left in
+    let if4-left = c .before .before .if4 .left in
+    let s = c8 .before .before .before .before .args .s in
+    let told = c8 .before .before .struct-told .given .0 .1 in
+    let slow : natAbs (s .rate) ≤ 600 = rw (← rate-size (c .before .before .before .before .before .before .before .before .before))
+    if1-left in
+    let rate = widened w16 w32 (s .rate) tt (record { sfits = told }) in
+    let change = toZ-ofZ {w = w32} {z = c .before .change .result} (record { sfits = c .before .change .ok }) in
+    sign-decides _ _ slow if2-left if3-left _ if4-left (c .same-sign .ensures ∙ rw (rate, change, c .before .change .ensures))
 
 pub fits-spec : {M : Type 1} → statement M
 fits-spec =

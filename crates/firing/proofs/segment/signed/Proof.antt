@@ -1,6 +1,6 @@
 use native.Mathlib.Omega.{arith}
-use Rattle.firing.proofs.Signed.{low-half, high-half, high-fits, difference-fits}
 use borrow.Author.Needs.{needs}
+use Rattle.firing.proofs.Signed.{low-half, high-half, high-fits, difference-fits}
 use Rattle.firing.proofs.segment.signed.Statement.{statement}
 use Rattle.firing.proofs.segment.signed.Tie as tie
 

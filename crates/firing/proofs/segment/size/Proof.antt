@@ -1,9 +1,8 @@
+use mathlib.Core.Path.{ap}
 use lib.IntN.{natAbs}
 use mir.Facts.{toZ-ofZ}
-use mathlib.Core.Path.{ap}
 use mir.Syntax.{w32, w64}
 use Rattle.firing.proofs.Signed.{widens, negation-fits, size-fits, size-is, plain-fits}
-use borrow.Author.Needs.{needs}
 use Rattle.firing.proofs.segment.size.Statement.{statement}
 use Rattle.firing.proofs.segment.size.Tie as tie
 
