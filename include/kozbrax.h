@@ -66,7 +66,7 @@ uint32_t kozbrax_leaf(uint16_t author, const uint8_t *entry, size_t entry_len, u
    Leaves, on 0: the digest in the first 32 bytes of out, and the bytes past them as they were. Else: out as it was. */
 uint32_t kozbrax_digest(const uint8_t *leaves, size_t leaves_len, uint8_t *out, size_t out_len);
 
-/* The board: targets are those of the log's entries in order, 0 for an insertion; standing gets 1 for each standing insertion and 0
+/* The board: targets are those of the log's entries in order, 0 for an insertion, which a firing schedule is too; standing gets 1 for each standing insertion and 0
    for every other entry. Both lengths count numbers. Entries are numbered from 1, and one stands if no later standing entry has its
    number as target, so that striking a strike undoes it. A target that is not before its own entry strikes nothing.
    Returns 0, or 21 where the lengths differ. Leaves, on 21: standing as it was. */
@@ -145,7 +145,8 @@ kozbrax_asked kozbrax_update_start(uint32_t servers, uint32_t own, const uint8_t
 
 /* Starts a Write of an entry, or resumes the open write of that entry. tree is the key's; randomizer has 32 bytes.
    Returns the code: 22; else 21 where request_len is below 2,566 or tree_len below 65,504; else 18 where a write of another entry is open;
-   else 19 where the entry has another shape; else 17 where the signature number is 1,024 and no signed write is open; else 0.
+   else 19 where the entry has another shape than kozbrax_schedule names; else 26 where it begins with 3 and breaks the rules named there;
+   else 17 where the signature number is 1,024 and no signed write is open; else 0.
    Leaves, on 0: the Write in call, the entry in the first bytes of held, and the first request. Else: everything as it was. */
 kozbrax_asked kozbrax_write_start(uint32_t servers, uint32_t own, const uint8_t *log, const uint8_t *users, size_t users_len,
                                   const uint8_t *tree, size_t tree_len, const uint8_t *entry, size_t entry_len,
