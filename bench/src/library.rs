@@ -3,10 +3,12 @@
 
 use crate::lms::Signer;
 use crate::plain_server::HEAD;
+use crate::schedule::Firing;
 use crate::server::{Served, Settings};
 use crate::user::{Asked, Lent, SettledAnswer, Signing, KEPT};
 
 mod raw {
+    use crate::schedule::Firing;
     use crate::server::Served;
     use crate::user::{Asked, SettledAnswer};
 
@@ -47,6 +49,7 @@ mod raw {
         pub fn kozbrax_leaf(author: u16, entry: *const u8, entry_len: usize, out: *mut u8, out_len: usize) -> u32;
         pub fn kozbrax_digest(leaves: *const u8, leaves_len: usize, out: *mut u8, out_len: usize) -> u32;
         pub fn kozbrax_board(targets: *const u32, targets_len: usize, standing: *mut u32, standing_len: usize) -> u32;
+        pub fn kozbrax_schedule(entry: *const u8, entry_len: usize) -> Firing;
         pub fn kozbrax_server(
             servers: u32,
             own: u32,
@@ -226,6 +229,12 @@ pub fn digest(leaves: &[u8], out: &mut [u8]) -> u32 {
 pub fn board(targets: &[u32], standing: &mut [u32]) -> u32 {
     // SAFETY: as for `sha256`; both lengths count numbers.
     unsafe { raw::kozbrax_board(targets.as_ptr(), targets.len(), standing.as_mut_ptr(), standing.len()) }
+}
+
+/// The code, and where it is 0 the total time in minutes and the peak of the firing that the entry holds.
+pub fn schedule(entry: &[u8]) -> Firing {
+    // SAFETY: as for `lms_check`.
+    unsafe { raw::kozbrax_schedule(entry.as_ptr(), entry.len()) }
 }
 
 /// The code, the length of the answer in its buffer, and the store's new used length. 22 and 21 write nothing.

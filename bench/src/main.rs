@@ -8,6 +8,7 @@ mod plain;
 mod plain_lms;
 mod plain_server;
 mod sample;
+mod schedule;
 mod server;
 mod stack;
 mod store;
@@ -25,14 +26,15 @@ fn main() {
         "map" => map::run(),
         #[cfg(before)]
         "map-once" => map::once(seed as usize),
+        "schedule" => schedule::run(seed),
         "server" => server::run(seed),
         "store" => store::run(seed),
         "tree" => tree::run(seed),
         "user" => user::run(seed),
         _ => {
             eprintln!(
-                "usage: cargo run --release -- SUBJECT, where SUBJECT is: hash, lms, server [SEED], store [SEED], tree [SEED], \
-                 user [SEED]; or map, if it was built with KOZBRAX_BEFORE=FOLDER (README.md)"
+                "usage: cargo run --release -- SUBJECT, where SUBJECT is: hash, lms, schedule [SEED], server [SEED], store [SEED], \
+                 tree [SEED], user [SEED]; or map, if it was built with KOZBRAX_BEFORE=FOLDER (README.md)"
             );
             std::process::exit(2);
         }

@@ -1,0 +1,96 @@
+//! What is reported of a firing schedule: the library's against plain Rust's.
+mod plain;
+mod sweeps;
+mod tally;
+
+use crate::sample::Random;
+use crate::timing::{Clock, Race};
+use crate::{library, stack};
+use std::hint::black_box;
+use tally::Tally;
+
+const ROUNDS: usize = 100;
+
+/// How many schedules are reported in turn while the time is taken: one, whose branches the processor learns, and many.
+const IN_TURN: [usize; 2] = [1, 1024];
+
+/// How often each code has to come up for the comparison to count.
+const OFTEN: u64 = 10_000;
+
+/// The code, and where it is 0 the total of minutes and the highest target.
+#[repr(C)]
+#[derive(Clone, Copy, PartialEq, Debug)]
+pub struct Firing {
+    pub code: u32,
+    pub minutes: u32,
+    pub peak: u32,
+}
+
+type Report = fn(&[u8]) -> Firing;
+type Sweep = fn(&mut Tally);
+
+const LIBRARY: Report = library::schedule;
+const PLAIN: Report = plain::report;
+
+const SWEEPS: [(&str, Sweep); 8] = [
+    ("schedules that keep the rules", sweeps::valid_schedules),
+    ("all differences at all rates", sweeps::roundings),
+    ("all rates, targets and holds", sweeps::whole_fields),
+    ("the fields' ends", sweeps::ends),
+    ("signs", sweeps::signs),
+    ("counts", sweeps::counts),
+    ("damaged schedules", sweeps::damaged),
+    ("random bytes", sweeps::random_bytes),
+];
+
+pub fn run(seed: u64) {
+    println!("code, minutes and peak, the same from the library and from plain Rust, seed {seed}:");
+    let mut tally = Tally::new(seed);
+    for (name, sweep) in SWEEPS {
+        let before = tally.calls();
+        sweep(&mut tally);
+        println!("  {name:>29}  {:>9} calls", tally.calls() - before);
+    }
+    println!("{} calls in all, no difference, by code:", tally.calls());
+    tally.demand([0, plain::MISSHAPEN, plain::AGAINST_RULES], OFTEN);
+    println!("nanoseconds of processor time for a call, best and median of {ROUNDS} rounds:");
+    let random = &mut Random::new(seed);
+    for (segments, count) in [1, 16].iter().flat_map(|segments| IN_TURN.map(|count| (*segments, count))) {
+        time(random, segments, count);
+    }
+    println!("stack of a call, in bytes, its return address included:");
+    for segments in [1, 16] {
+        print_stack(&sweeps::valid_entry(random, segments), segments);
+    }
+}
+
+fn report_all(report: Report, schedules: &[Vec<u8>]) {
+    for entry in schedules {
+        black_box(report(black_box(entry)));
+    }
+}
+
+fn time(random: &mut Random, segments: usize, count: usize) {
+    let schedules: Vec<Vec<u8>> = (0..count).map(|_| sweeps::valid_entry(random, segments)).collect();
+    let mut race = Race::new(Clock::Processor, || report_all(black_box(PLAIN), &schedules));
+    for _ in 0..ROUNDS {
+        race.round(|| report_all(black_box(LIBRARY), &schedules), || report_all(black_box(PLAIN), &schedules));
+    }
+    let (best, median) = (race.best(), race.medians());
+    let a_call = 1e9 / count as f64;
+    println!(
+        "  {segments:>2} segments, {count:>4} schedules in turn  library {:.1}, {:.1}  plain {:.1}, {:.1}",
+        best.0 * a_call,
+        median.0 * a_call,
+        best.1 * a_call,
+        median.1 * a_call
+    );
+}
+
+fn print_stack(entry: &[u8], segments: usize) {
+    let nothing: Report = |_| Firing { code: 0, minutes: 0, peak: 0 };
+    let used = stack::of_call(LIBRARY, nothing, |report| {
+        black_box(report(black_box(entry)));
+    });
+    println!("  {segments:>2} segments  {used}");
+}
