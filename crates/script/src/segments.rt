@@ -1,7 +1,6 @@
 // The segments of a schedule on a line: a rate, which may be below 0, a target and a hold for each, with blanks between them.
 use crate::Fault;
 use lines::Digits;
-use sha256::bytes;
 
 // A segment that a line lists: its numbers as two bytes hold them, the rate in two's complement; what is wrong with it; and what is left
 // of the line is at `next`.
@@ -13,10 +12,10 @@ pub struct Listed {
     pub next: usize,
 }
 
-// A rate that a line lists: its two bytes, whether they hold the number that is there, and what is left of the line is at `next`.
+// A rate that a line lists: its two bytes, whether the number that is there fits into them, and what is left of the line is at `next`.
 struct Rate {
     bits: u16,
-    held: bool,
+    fits: bool,
     next: usize,
 }
 
@@ -54,6 +53,7 @@ pub fn segment(text: &[u8], at: usize) -> Listed {
     }
 }
 
+// The rate at a place.
 fn rate_at(text: &[u8], at: usize) -> Rate {
     if at < text.len() {
         if text[at] == b'-' {
@@ -63,7 +63,7 @@ fn rate_at(text: &[u8], at: usize) -> Rate {
     let d = crate::number_at(text, at);
     Rate {
         bits: (d.value % 65536) as u16,
-        held: crate::is_within(d, 0, 32767),
+        fits: crate::is_within(d, 0, 32767),
         next: d.next,
     }
 }
@@ -72,13 +72,13 @@ fn rate_at(text: &[u8], at: usize) -> Rate {
 fn below_0(d: Digits) -> Rate {
     Rate {
         bits: ((65536 - d.value % 65536) % 65536) as u16,
-        held: crate::is_within(d, 0, 32768),
+        fits: crate::is_within(d, 0, 32768),
         next: d.next,
     }
 }
 
 fn fault_of(rate: Rate, target: Digits, hold: Digits) -> Fault {
-    if !rate.held {
+    if !rate.fits {
         return Fault::Rate;
     }
     if !crate::is_within(target, 0, 65535) {

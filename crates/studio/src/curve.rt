@@ -8,7 +8,8 @@ use firing::segment::Segment;
 use programs::print;
 use sha256::bytes;
 
-// Draws the curve of a schedule that keeps the rules, with what was reported of it. A firing that never leaves 20 has none.
+// Draws the curve of a schedule that keeps the rules, with what was reported of it. A firing that never leaves 20 has none, and takes no
+// time where it does not hold either.
 pub fn draw(entry: &[u8], f: Firing) {
     if f.minutes == 0 {
         print::text(b"  the kiln stays at 20 C\n");
@@ -25,7 +26,7 @@ pub fn draw(entry: &[u8], f: Firing) {
     print_time(f.minutes);
 }
 
-// Marks the minutes of all segments. Row by row from the bottom, a mark is a star.
+// Marks the minutes of all segments with stars. The marks have the rows one after the other, the bottom row first.
 fn mark_segments(entry: &[u8], f: Firing, marks: &mut [u8])
     requires { ⌜ 0 < f .minutes ⌝ }
 {
@@ -43,7 +44,8 @@ fn mark_segments(entry: &[u8], f: Firing, marks: &mut [u8])
     }
 }
 
-// Marks each minute of a segment that begins at a time: in the minute's column, the row of the temperature at its end.
+// Marks each minute of a segment that begins `start` minutes into the firing: in the minute's column, the row of the temperature at its
+// end. So each target has a mark, however short its hold is.
 fn mark_segment(before: u16, s: Segment, minutes: u32, start: usize, f: Firing, marks: &mut [u8])
     requires { ⌜ (0 < f .minutes) × (start ≤ 1099511627776) ⌝ }
 {
@@ -74,7 +76,7 @@ fn temperature(before: u16, s: Segment, minutes: u32, m: u32) -> usize {
     (product(before, moving - m) + product(s.target, m)) / moving as usize
 }
 
-// The product of two numbers, which is below 2^48.
+// The product of two bytes' and four bytes' numbers, below 2^48, so that sums of products fit.
 fn product(a: u16, b: u32) -> usize
     ensures { λ r. ⌜ r < 281474976710656 ⌝ }
 {
