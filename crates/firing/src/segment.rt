@@ -36,7 +36,7 @@ pub fn first(s: &[u8]) -> Segment
 }
 
 // The size of a number. The lowest one's size has one bit more than a signed number of that width, so it is taken at 64 bits.
-fn size(x: i32) -> u32
+pub fn size(x: i32) -> u32
     ensures { λ r. ⌜ r ≡ natAbs x ⌝ }
 {
     if x < 0 {

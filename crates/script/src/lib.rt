@@ -1,4 +1,6 @@
-// A line of a studio script: a word, one or two numbers, and a text that takes the rest of the line.
+// A line of a studio script: a word, one or two numbers, and a text or the segments of a schedule, which take the rest of the line.
+pub mod segments;
+
 use lines::Digits;
 use sha256::bytes;
 
@@ -13,21 +15,26 @@ pub enum Word {
     Cut,
     Resume,
     Fork,
+    Fire,
+    Report,
     Unknown,
 }
 
-// What is wrong with a line: its word, a number that is missing or out of range, a text that is missing or too long, or that the
-// line has more than its command takes.
+// What is wrong with a line: its word, a number that is missing or out of range, a text that is missing or too long, a rate, a target or
+// a hold that is missing or that two bytes do not hold, or that the line has more than its command takes.
 pub enum Fault {
     Nothing,
     UnknownWord,
     FirstNumber,
     SecondNumber,
     TextLength,
+    Rate,
+    Target,
+    Hold,
     TooMuch,
 }
 
-// A command: its word, its numbers, and the place on the line where its text begins.
+// A command: its word, its numbers, and the place on the line where its text or its segments begin.
 pub struct Command {
     pub word: Word,
     pub first: u32,
@@ -57,7 +64,7 @@ pub fn parse(line: &[u8], servers: u8) -> Command {
     }
     let text = lines::skip_blanks(line, next);
     let left = bytes::from(line, text);
-    let fault = fault_of(word, servers, first, second, left.len());
+    let fault = fault_of(word, servers, first, second, left);
     Command {
         word,
         first: first.value,
@@ -98,12 +105,23 @@ fn word_of(s: &[u8]) -> Word {
     if bytes::same(s, b"fork") {
         return Word::Fork;
     }
+    if bytes::same(s, b"fire") {
+        return Word::Fire;
+    }
+    if bytes::same(s, b"report") {
+        return Word::Report;
+    }
     Word::Unknown
 }
 
-// The number after the blanks at a place. It counts as missing where neither a blank nor the line's end follows it.
+// The number after the blanks at a place.
 fn number(line: &[u8], at: usize) -> Digits {
-    let d = lines::read_digits(line, lines::skip_blanks(line, at));
+    number_at(line, lines::skip_blanks(line, at))
+}
+
+// The number at a place. It counts as missing where neither a blank nor the line's end follows it.
+fn number_at(line: &[u8], at: usize) -> Digits {
+    let d = lines::read_digits(line, at);
     let next = d.next;
     if line.len() <= next {
         return d;
@@ -118,7 +136,8 @@ fn number(line: &[u8], at: usize) -> Digits {
     }
 }
 
-fn fault_of(word: Word, servers: u8, first: Digits, second: Digits, left: usize) -> Fault {
+// What is wrong with a line, whose numbers are followed by what is left of it.
+fn fault_of(word: Word, servers: u8, first: Digits, second: Digits, left: &[u8]) -> Fault {
     if is_unknown(word) {
         return Fault::UnknownWord;
     }
@@ -131,16 +150,24 @@ fn fault_of(word: Word, servers: u8, first: Digits, second: Digits, left: usize)
         }
     }
     if takes_text(word) {
-        if left == 0 {
-            return Fault::TextLength;
-        }
-        if 1023 < left {
-            return Fault::TextLength;
-        }
-        return Fault::Nothing;
+        return text_fault(left.len());
     }
-    if 0 < left {
+    if takes_segments(word) {
+        return segments::fault(left);
+    }
+    if 0 < left.len() {
         return Fault::TooMuch;
+    }
+    Fault::Nothing
+}
+
+// What is wrong with a text of so many bytes.
+fn text_fault(length: usize) -> Fault {
+    if length == 0 {
+        return Fault::TextLength;
+    }
+    if 1023 < length {
+        return Fault::TextLength;
     }
     Fault::Nothing
 }
@@ -184,6 +211,7 @@ fn takes_second(word: Word) -> bool {
         Word::Read => true,
         Word::Settled => true,
         Word::Cut => true,
+        Word::Report => true,
         _ => false,
     }
 }
@@ -208,6 +236,13 @@ fn takes_text(word: Word) -> bool {
         Word::Write => true,
         Word::Cut => true,
         Word::Resume => true,
+        _ => false,
+    }
+}
+
+fn takes_segments(word: Word) -> bool {
+    match word {
+        Word::Fire => true,
         _ => false,
     }
 }

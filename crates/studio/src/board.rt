@@ -7,7 +7,7 @@ use crate::group::Group;
 use crate::report;
 use crate::world;
 use exchange::user_place;
-use sha256::bytes;
+use firing::entry;
 
 // Reads a user's whole view and prints its board, or the first refusal of a read. The stores have room for fewer than 512 Commits.
 pub fn show(g: Group, own: u8, world: &mut [u8], keys: &[u8]) {
@@ -43,18 +43,10 @@ fn read_targets(
         if report::refused_read(p, world::user(own, world)) {
             return true;
         }
-        targets[k] = target(world::user(own, world));
+        targets[k] = entry::target(user_place::entry_of(world::user(own, world)));
         k += 1;
     }
     false
-}
-
-// The position that the entry which was read last strikes, 0 for an insertion.
-pub fn target(place: &[u8]) -> u32 {
-    if bytes::byte_at(place, user_place::ENTRY) == 2 {
-        return bytes::u32_at(place, user_place::ENTRY + 1);
-    }
-    0
 }
 
 // Prints the entries among the first n that are marked.

@@ -1,10 +1,12 @@
 // A log shown to a newcomer: servers and three users in one process, driven by a script on standard input, a command to a line.
-// docs/STUDIO.md lists the commands. Printed are each step's code, its answers and what the user keeps, entries and boards, and,
-// once the servers keep two copies of the log, where the users' views differ, against Q, and who notices it.
+// docs/STUDIO.md lists the commands. Printed are each step's code, its answers and what the user keeps, entries and boards, a schedule's
+// times and its curve, and, once the servers keep two copies of the log, where the users' views differ, against Q, and who notices it.
 mod board;
 mod call;
+mod curve;
 mod fork;
 mod group;
+mod kiln;
 mod report;
 mod run;
 mod world;

@@ -1,7 +1,8 @@
 // What is printed.
-use crate::board;
 use crate::group::Group;
+use crate::kiln;
 use exchange::user_place;
+use firing::entry;
 use lent_bytes::using::SettledAnswer;
 use programs::print;
 use programs::sentence;
@@ -39,6 +40,9 @@ pub fn fault(at: usize, c: Command, servers: u8) -> bool {
             script::second_most(word),
         ),
         Fault::TextLength => said(at, b"the text is missing or longer than 1023 bytes"),
+        Fault::Rate => said(at, b"a rate is missing or not in -32768 .. 32767"),
+        Fault::Target => said(at, b"a target is missing or not in 0 .. 65535"),
+        Fault::Hold => said(at, b"a hold is missing or not in 0 .. 65535"),
         Fault::TooMuch => said(at, b"the line has more than the command takes"),
     }
     true
@@ -126,17 +130,31 @@ pub fn entry(position: u32, place: &[u8]) {
     if bytes::byte_at(place, user_place::CODE) != 0 {
         return;
     }
+    found(position, place);
+    contents(user_place::entry_of(place));
+    print::text(b"\n");
+}
+
+// Where a Read found an entry, and whose it is.
+pub fn found(position: u32, place: &[u8]) {
     let author = bytes::u16_at(place, user_place::AUTHOR);
     print::number(b"  position ", position as usize);
     print::number(b" by user ", author as usize);
     print::text(b": ");
-    let target = board::target(place);
+}
+
+// What an entry holds: a schedule in a few words, what it strikes, or its text.
+fn contents(entry: &[u8]) {
+    if bytes::byte_at(entry, 0) == 3 {
+        kiln::summary(entry);
+        return;
+    }
+    let target = entry::target(entry);
     if target == 0 {
-        print::text(bytes::from(user_place::entry_of(place), 1));
+        print::text(bytes::from(entry, 1));
     } else {
         print::number(b"strike ", target as usize);
     }
-    print::text(b"\n");
 }
 
 // Above a board.

@@ -4,6 +4,7 @@ use crate::call;
 use crate::fork;
 use crate::group;
 use crate::group::Group;
+use crate::kiln;
 use crate::report;
 use crate::world;
 use exchange::user_place;
@@ -52,6 +53,8 @@ fn act(c: Command, line: &[u8], g: Group, world: &mut [u8], keys: &[u8]) {
         Word::Board => board::show(g, own, world, keys),
         Word::Settled => settled(g, own, c.second, world, keys),
         Word::Strike => strike(g, own, c.second, world, keys),
+        Word::Report => report_firing(g, own, c.second, world, keys),
+        Word::Fire => fire(g, own, bytes::from(line, c.text), world, keys),
         _ => write(c, bytes::from(line, c.text), g, world, keys),
     }
 }
@@ -68,6 +71,15 @@ fn read(g: Group, own: u8, position: u32, world: &mut [u8], keys: &[u8]) {
     let place = world::user(own, world);
     report::call(place, answers);
     report::entry(position, place);
+    fork::notice(g, own, position, world::some_open(world), world);
+}
+
+// Reads a position and reports on the firing there.
+fn report_firing(g: Group, own: u8, position: u32, world: &mut [u8], keys: &[u8]) {
+    let answers = call::read(g, own, position, world, keys);
+    let place = world::user(own, world);
+    report::call(place, answers);
+    kiln::report(position, place);
     fork::notice(g, own, position, world::some_open(world), world);
 }
 
@@ -110,6 +122,13 @@ fn strike(g: Group, own: u8, position: u32, world: &mut [u8], keys: &[u8]) {
     let p = bytes::be4(position);
     let entry = [2, p[0], p[1], p[2], p[3]];
     write_entry(g, own, &entry, 99, world, keys);
+}
+
+// An entry that holds a firing, with the segments that a text lists.
+fn fire(g: Group, own: u8, text: &[u8], world: &mut [u8], keys: &[u8]) {
+    let mut entry = [0u8; 98];
+    let length = kiln::lay(text, &mut entry);
+    write_entry(g, own, bytes::front(&entry, length), 99, world, keys);
 }
 
 fn write_entry(g: Group, own: u8, entry: &[u8], most: u32, world: &mut [u8], keys: &[u8]) {

@@ -42,6 +42,9 @@ returns c = search needs
 user-requires-2 : tie.Need-user-requires-2 Inv-loop μ-loop
 user-requires-2 c κs = search needs
 
+entry-of-requires : tie.Need-entry-of-requires Inv-loop μ-loop
+entry-of-requires c κs = search needs
+
 target-requires : tie.Need-target-requires Inv-loop μ-loop
 target-requires c κs = search needs
 
@@ -58,7 +61,9 @@ loop-less : tie.Need-loop-less Inv-loop μ-loop
 loop-less c = search needs
 
 loop-again : tie.Need-loop-again Inv-loop μ-loop
-loop-again c = (search needs, (search needs, length-set {0} {A = ℕ} (c .before .before .before .before .before .before .before .before .before .before .before .before .loop .targets) _ _ ∙ c .before .before .before .before .before .before .before .before .before .before .before .before .loop .inv .1 .1))
+loop-again c =
+    let loop = c .before .before .before .before .before .before .before .before .before .before .before .before .before .loop in
+    (search needs, (search needs, length-set {0} {A = ℕ} (loop .targets) _ _ ∙ loop .inv .1 .1))
 
 same-length-3 : tie.Need-same-length-3 Inv-loop μ-loop
 same-length-3 c = search needs
@@ -85,6 +90,7 @@ read-targets-spec =
     same-length-2
     returns
     user-requires-2
+    entry-of-requires
     target-requires
     mul-targets
     slice-write-targets
