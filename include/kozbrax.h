@@ -66,9 +66,9 @@ uint32_t kozbrax_leaf(uint16_t author, const uint8_t *entry, size_t entry_len, u
    Leaves, on 0: the digest in the first 32 bytes of out, and the bytes past them as they were. Else: out as it was. */
 uint32_t kozbrax_digest(const uint8_t *leaves, size_t leaves_len, uint8_t *out, size_t out_len);
 
-/* The board: targets are those of the log's entries in order, 0 for an insertion, which a firing schedule is too; standing gets 1 for each standing insertion and 0
-   for every other entry. Both lengths count numbers. Entries are numbered from 1, and one stands if no later standing entry has its
-   number as target, so that striking a strike undoes it. A target that is not before its own entry strikes nothing.
+/* The board: targets are those of the log's entries in order, 0 for an insertion, which a firing schedule is too; standing gets 1 for
+   each standing insertion and 0 for every other entry. Both lengths count numbers. Entries are numbered from 1, and one stands if no later
+   standing entry has its number as target, so that striking a strike undoes it. A target that is not before its own entry strikes nothing.
    Returns 0, or 21 where the lengths differ. Leaves, on 21: standing as it was. */
 uint32_t kozbrax_board(const uint32_t *targets, size_t targets_len, uint32_t *standing, size_t standing_len);
 

@@ -1,6 +1,6 @@
 //! What is reported of a firing schedule: the library's against plain Rust's.
-mod plain;
-mod sweeps;
+pub mod plain;
+pub mod sweeps;
 mod tally;
 
 use crate::sample::Random;

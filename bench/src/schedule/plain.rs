@@ -17,8 +17,8 @@ pub fn report(entry: &[u8]) -> Firing {
     firing(entry).unwrap_or(Firing { code: AGAINST_RULES, minutes: 0, peak: 0 })
 }
 
-/// 1 to 1,024 bytes of which the first is 1, 2 or 3, and 5 bytes where it is 2.
-fn has_shape(entry: &[u8]) -> bool {
+/// 19's shape: 1 to 1,024 bytes of which the first is 1, 2 or 3, and 5 bytes where it is 2.
+pub fn has_shape(entry: &[u8]) -> bool {
     match entry {
         [1 | 3, ..] => entry.len() <= LONGEST_ENTRY,
         [2, ..] => entry.len() == 5,
@@ -43,6 +43,11 @@ fn firing(entry: &[u8]) -> Option<Firing> {
         peak = peak.max(target);
     }
     Some(Firing { code: 0, minutes, peak: peak as u32 })
+}
+
+/// 26 of a Write: an entry that begins as a schedule and is none that keeps the rules.
+pub fn breaks_rules(entry: &[u8]) -> bool {
+    entry.first() == Some(&3) && firing(entry).is_none()
 }
 
 /// How long a segment lasts from a temperature on, if it keeps the rules.

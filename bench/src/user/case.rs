@@ -225,11 +225,11 @@ impl<'a> Case<'a> {
     }
 }
 
-/// The kinds of steps, and the codes that document 01 lets each have.
+/// The kinds of steps, and the codes that documents 01 and 02 let each have.
 const ROWS: [(&str, &[u32]); 8] = [
     ("Update, start", &[0, 18, 21, 22]),
     ("Update, answer", &[0, 10, 11, 12, 13, 14, 15, 16, 18, 21, 22]),
-    ("Write, start", &[0, 17, 18, 19, 21, 22]),
+    ("Write, start", &[0, 17, 18, 19, 21, 22, 26]),
     ("Write, answer", &[0, 10, 11, 12, 13, 14, 15, 16, 17, 18, 19, 20, 21, 22]),
     ("Read, start", &[0, 21, 22, 24]),
     ("Read, answer", &[0, 10, 11, 21, 22, 23, 24]),
@@ -238,7 +238,7 @@ const ROWS: [(&str, &[u32]); 8] = [
 ];
 const SETTLED: usize = 7;
 
-const CODES: [u32; 16] = [0, 10, 11, 12, 13, 14, 15, 16, 17, 18, 19, 20, 21, 22, 23, 24];
+const CODES: [u32; 17] = [0, 10, 11, 12, 13, 14, 15, 16, 17, 18, 19, 20, 21, 22, 23, 24, 26];
 
 /// How often each code came up for each kind of step.
 #[derive(Default)]

@@ -7,6 +7,7 @@ use crate::lms::Key;
 use crate::plain_lms::KEY;
 use crate::plain_server::{LAST_POSITION, LONGEST_ENTRY, MOST_USERS};
 use crate::sample::Random;
+use crate::schedule::sweeps::valid_entry;
 use crate::server::message::position;
 
 pub struct Exchange<'a> {
@@ -173,12 +174,14 @@ impl<'a> Exchange<'a> {
         }
     }
 
-    /// An insertion, a strike, or an entry that 19 refuses.
+    /// An insertion, a strike, a schedule, or an entry that 19 or 26 refuses.
     fn entry(&mut self, user: usize) -> Vec<u8> {
         let v = self.users[user].memory.version();
         let any = 1 + self.random.below(LONGEST_ENTRY);
         let short = 1 + self.random.below(40);
-        let (first, length) = match self.random.below(20) {
+        let (first, length) = match self.random.below(22) {
+            20 => return self.schedule(),
+            21 => (3, self.random.pick(&[1, 2, 8, 14, short, any])),
             0..12 => (1, self.random.pick(&[1, 2, 5, short, short, any, LONGEST_ENTRY - 1, LONGEST_ENTRY])),
             12..17 => {
                 let within = 1 + self.random.below(v as usize + 2) as u32;
@@ -191,6 +194,17 @@ impl<'a> Exchange<'a> {
         };
         let mut entry = self.random.bytes(length);
         entry.iter_mut().take(1).for_each(|byte| *byte = first);
+        entry
+    }
+
+    /// A schedule that keeps the rules, or one with a byte changed.
+    fn schedule(&mut self) -> Vec<u8> {
+        let count = 1 + self.random.below(16);
+        let mut entry = valid_entry(&mut self.random, count);
+        if self.random.below(2) == 0 {
+            let place = 1 + self.random.below(entry.len() - 1);
+            entry[place] = self.random.below(256) as u8;
+        }
         entry
     }
 }

@@ -9,6 +9,7 @@ use crate::plain_lms::{KEY, TREE};
 use crate::plain_server::{label, lg, owner, ANSWER_HEADER, LAST_POSITION, LONGEST_ENTRY, MOST_USERS};
 use crate::plain_server::{RECORD, STATUS};
 use crate::sample::Random;
+use crate::schedule::sweeps::valid_entry;
 use crate::server::sweeps::positions;
 
 const SERVERS: u32 = 4;
@@ -328,7 +329,7 @@ impl<'a> Sweeps<'a> {
         let user = self.user(&shared, VERSION);
         let lengths = (0..=1040).chain([1 << 16, (1 << 16) + 1, (1 << 16) + 5, (1 << 16) + 30]);
         for length in lengths {
-            for first in [1, 2] {
+            for first in 1..=3 {
                 self.start_write(&user, first, length);
             }
         }
@@ -345,6 +346,31 @@ impl<'a> Sweeps<'a> {
             let entry = [&[1][..], &self.random.bytes(length - 1)].concat();
             self.whole_write(&user, entry);
         }
+        self.schedules(&user);
+    }
+
+    /// Schedules of each count of segments: whole Writes, and starts with each byte of them changed, with nothing open and with an
+    /// open write of that entry, with a number left and with none.
+    fn schedules(&mut self, user: &Case<'a>) {
+        for count in 1..=16 {
+            let entry = valid_entry(&mut self.random, count);
+            self.whole_write(user, entry.clone());
+            for place in 0..entry.len() {
+                let mut entry = entry.clone();
+                entry[place] ^= 1 + self.random.below(255) as u8;
+                for (opened, number) in [(0, 0), (0, 1024), (1, 0), (1, 1024)] {
+                    self.start_in(user, &entry, opened, number);
+                }
+            }
+        }
+    }
+
+    /// A start of a Write of an entry with nothing open, or with an open write of it, and this many numbers used.
+    fn start_in(&mut self, user: &Case, entry: &[u8], opened: u8, number: u32) {
+        let mut case = user.with(Step::Write { entry: entry.to_vec(), randomizer: self.random.array() });
+        case.memory.kept[36..41].copy_from_slice(&[&number.to_be_bytes()[..], &[opened]].concat());
+        case.memory.path[..32].copy_from_slice(&leaf(1, entry));
+        self.tally.compare(&case);
     }
 
     fn start_write(&mut self, user: &Case, first: u8, length: usize) {
