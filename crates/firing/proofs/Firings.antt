@@ -22,7 +22,7 @@ use Rattle.firing.specs.Schedule.{segmentsFit, roundedUp, segmentMinutes
 use Rattle.firing.specs.Schedule.{reported}
 use Rattle.firing.specs.Temperatures.{reached}
 use Rattle.firing.proofs.Signed.{pos-minus, low-half, lowered}
-use Rattle.firing.proofs.Segments.{kept, rounded-enough, rounded-least, segment-most}
+use Rattle.firing.proofs.Segments.{keeps-rules, rounded-enough, rounded-least, segment-most}
 use Rattle.firing.proofs.Schedules.{layout, code-none}
 
 -- On the board a schedule counts as an insertion.
@@ -98,7 +98,7 @@ pub rate-signs : (before : ℕ) (s : Segment) → segmentFits before s ≡ true
 unfolding change
 rate-signs before s e =
     let d = change-signs (s .target) before in
-    let sign = subst (λ z. sameSign (s .rate) z ≡ true) (pos-minus (s .target) before) (kept before s e .sign) in
+    let sign = subst (λ z. sameSign (s .rate) z ≡ true) (pos-minus (s .target) before) (keeps-rules before s e .sign) in
     let r = same-signs (s .rate) (subℕ (s .target) before) sign in
     (r .0 ∙ d .0, r .1 ∙ d .1, r .2 ∙ d .2)
 
@@ -148,7 +148,7 @@ unfolding total segmentsFit
 total-most before [] least most e = omega arith
 total-most before (x ∷ xs) least most e =
     let both = and-eq-true-iff (segmentFits before x) _ .0 e in
-    let k = kept before x (both .0) in
+    let k = keeps-rules before x (both .0) in
     let one = segment-most before x least most k in
     let rest = total-most (x .target) xs (k .warm) (k .low) (both .1) in
     omega arith

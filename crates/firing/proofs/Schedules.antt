@@ -15,7 +15,7 @@ use Rattle.firing.specs.declared.schedule.Firing.{Firing}
 use Rattle.firing.specs.Entry.{strikes, isSchedule, entryFits}
 use Rattle.firing.specs.Schedule.{segmentOf, segmentsIn, segmentCount, segments, laidOut, segmentFits, segmentsFit, segmentMinutes}
 use Rattle.firing.specs.Schedule.{total, peak, start, scheduleFits, rulesKept, reportCode, unreported, reported}
-use Rattle.firing.proofs.Segments.{kept, segment-most}
+use Rattle.firing.proofs.Segments.{keeps-rules, segment-most}
 
 -- the highest of three
 highest : (a b c : ℕ) → max a (max b c) ≡ max (max a b) c
@@ -125,12 +125,12 @@ module _ (entry : List ℕ) where
 
       module _ (e : segmentFits before s ≡ true) where
         pub minutes-most : segmentMinutes before s ≤ 85799
-        minutes-most = segment-most before s (w .least) (w .most) (kept before s e)
+        minutes-most = segment-most before s (w .least) (w .most) (keeps-rules before s e)
 
         pub turn : Walk (left - 1) (at + 6) (s .target) (minutes + segmentMinutes before s) (max high (s .target))
         unfolding segmentsFit total peak
         turn =
-            let k = kept before s e in
+            let k = keeps-rules before s e in
             let long = minutes-most in
             let time = w .time in
             let place = w .place in

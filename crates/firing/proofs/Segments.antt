@@ -74,16 +74,16 @@ module _ (before : ℕ) (s : Segment) where
   moves n = rw (ne-eqb (natAbs (s .rate)) 0 n)
 
 -- a segment that keeps the rules
-pub record Kept (before : ℕ) (s : Segment) : Type 0 where
+pub record KeepsRules (before : ℕ) (s : Segment) : Type 0 where
   pub slow : natAbs (s .rate) ≤ 600
   pub warm : 20 ≤ s .target
   pub low : s .target ≤ 1350
   pub short : s .hold ≤ 5999
   pub sign : sameSign (s .rate) (change before s) ≡ true
 
-pub kept : (before : ℕ) (s : Segment) → segmentFits before s ≡ true → Kept before s
+pub keeps-rules : (before : ℕ) (s : Segment) → segmentFits before s ≡ true → KeepsRules before s
 unfolding segmentFits
-kept before s e =
+keeps-rules before s e =
     let rate = and-eq-true-iff _ _ .0 e in
     let low = and-eq-true-iff _ _ .0 (rate .1) in
     let high = and-eq-true-iff _ _ .0 (low .1) in
@@ -97,7 +97,7 @@ kept before s e =
     }
 
 -- the longest segment: 1,330 degrees at 1 °C per hour, and the longest hold
-pub segment-most : (before : ℕ) (s : Segment) → 20 ≤ before → before ≤ 1350 → Kept before s → segmentMinutes before s ≤ 85799
+pub segment-most : (before : ℕ) (s : Segment) → 20 ≤ before → before ≤ 1350 → KeepsRules before s → segmentMinutes before s ≤ 85799
 unfolding segmentMinutes change
 segment-most before s least most k =
     let short = k .short in

@@ -20,6 +20,7 @@ twosComplement n = cond (ltb n 32768) (pos n) (pos n -ℤ pos 65536)
 unfoldable pub segmentOf : List ℕ → Segment
 segmentOf s = record { rate = twosComplement (numberAt 2 s 0); target = numberAt 2 s 2; hold = numberAt 2 s 4 }
 
+-- So many segments, one behind the other.
 unfoldable pub segmentsIn : ℕ → List ℕ → List Segment
 segmentsIn zero s = []
 segmentsIn (suc n) s = segmentOf s ∷ segmentsIn n (drop 6 s)
@@ -57,6 +58,7 @@ unfoldable pub segmentsFit : ℕ → List Segment → Bool
 segmentsFit before [] = true
 segmentsFit before (s ∷ rest) = segmentFits before s && segmentsFit (s .target) rest
 
+-- a over b, rounded up to a whole number.
 unfoldable pub roundedUp : ℕ → ℕ → ℕ
 roundedUp a b = (a + (b - 1)) / b
 
@@ -79,6 +81,7 @@ peak (s ∷ rest) = max (s .target) (peak rest)
 abbrev pub start : ℕ
 start = 20
 
+-- A schedule that keeps all of these rules.
 unfoldable pub scheduleFits : List ℕ → Bool
 scheduleFits entry = laidOut entry && segmentsFit start (segments entry)
 

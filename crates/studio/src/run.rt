@@ -49,11 +49,11 @@ fn act(c: Command, line: &[u8], g: Group, world: &mut [u8], keys: &[u8]) {
     let word = c.word;
     match word {
         Word::Update => update(g, own, world, keys),
-        Word::Read => read(g, own, c.second, world, keys),
+        Word::Read => read(c, g, world, keys),
+        Word::Report => read(c, g, world, keys),
         Word::Board => board::show(g, own, world, keys),
         Word::Settled => settled(g, own, c.second, world, keys),
         Word::Strike => strike(g, own, c.second, world, keys),
-        Word::Report => report_firing(g, own, c.second, world, keys),
         Word::Fire => fire(g, own, bytes::from(line, c.text), world, keys),
         _ => write(c, bytes::from(line, c.text), g, world, keys),
     }
@@ -66,21 +66,18 @@ fn update(g: Group, own: u8, world: &mut [u8], keys: &[u8]) {
     fork::after(g, own, open_before, world, keys);
 }
 
-fn read(g: Group, own: u8, position: u32, world: &mut [u8], keys: &[u8]) {
-    let answers = call::read(g, own, position, world, keys);
+// Reads a position, and prints the entry there or the report on its firing.
+fn read(c: Command, g: Group, world: &mut [u8], keys: &[u8]) {
+    let own = (c.first % 256) as u8;
+    let word = c.word;
+    let answers = call::read(g, own, c.second, world, keys);
     let place = world::user(own, world);
     report::call(place, answers);
-    report::entry(position, place);
-    fork::notice(g, own, position, world::some_open(world), world);
-}
-
-// Reads a position and reports on the firing there.
-fn report_firing(g: Group, own: u8, position: u32, world: &mut [u8], keys: &[u8]) {
-    let answers = call::read(g, own, position, world, keys);
-    let place = world::user(own, world);
-    report::call(place, answers);
-    kiln::report(position, place);
-    fork::notice(g, own, position, world::some_open(world), world);
+    match word {
+        Word::Report => kiln::report(c.second, place),
+        _ => report::entry(c.second, place),
+    }
+    fork::notice(g, own, c.second, world::some_open(world), world);
 }
 
 fn settled(g: Group, own: u8, position: u32, world: &mut [u8], keys: &[u8]) {

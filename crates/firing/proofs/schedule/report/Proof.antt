@@ -1,6 +1,7 @@
 use mathlib.Core.Path.{_≡_, ap, sym, _∙_}
 use mathlib.Core.Bool.{true}
 use native.Mathlib.Omega.{arith}
+use lib.ListN.{drop}
 use denote.Ref.{now}
 use borrow.Author.Tests.{not-true, not-false}
 use borrow.Author.Needs.{needs}
@@ -23,12 +24,17 @@ fits-requires c κs = search needs
 refused-requires : tie.Need-refused-requires Inv-loop μ-loop
 refused-requires c κs = search needs
 
--- what the checks before the loop have shown, the segment that a turn reads, and that it keeps the rules
+-- what the checks before the loop have shown, and the segment that a turn reads
 shaped : (c : tie.After-laid-out Inv-loop μ-loop) → entryFits (now (c .before .before .before .before .args .entry)) ≡ true
 shaped c = sym (c .before .before .fits2 .ensures) ∙ not-false _ (c .before .if1 .left)
 
 laid : (c : tie.After-byte-at Inv-loop μ-loop) → laidOut (now (c .before .before .before .before .before .before .args .entry)) ≡ true
 laid c = sym (c .before .before .laid-out .ensures) ∙ not-false _ (c .before .if2 .left)
+
+segment : (c : tie.After-first Inv-loop μ-loop)
+    → c .first .result ≡ segmentOf (drop (c .before .before .before .loop .at)
+    (now (c .before .before .before .before .before .before .before .before .before .before .args .entry)))
+segment c = c .first .ensures ∙ ap segmentOf (c .before .from .ensures)
 
 returns : tie.Need-returns Inv-loop μ-loop
 returns c = c .refused .ensures ∙ refused-shape _ (sym (c .before .before .fits2 .ensures) ∙ not-true _ (c .before .if1 .taken))
@@ -69,13 +75,11 @@ returns-3 : tie.Need-returns-3 Inv-loop μ-loop
 returns-3 c =
     let loop-inv = c .before .before .before .before .before .before .loop .inv in
     let loop-test-taken = c .before .before .before .before .before .loop-test .taken in
-    let from = c .before .before .before .before .from .ensures in
-    let first = c .before .before .before .first .ensures in
     let fits3 = c .before .before .fits3 .ensures in
-    let segment = first ∙ ap segmentOf from in
     let breaks = sym fits3 ∙ not-true _ (c .before .if3 .taken) in
     c .refused3 .ensures ∙ refused-segment _ (shaped (c .before .before .before .before .before .before .before .before .before))
-    (laid (c .before .before .before .before .before .before .before)) (broken _ _ _ _ _ _ loop-inv loop-test-taken _ segment breaks)
+    (laid (c .before .before .before .before .before .before .before))
+    (broken _ _ _ _ _ _ loop-inv loop-test-taken _ (segment (c .before .before .before)) breaks)
 
 minutes-requires : tie.Need-minutes-requires Inv-loop μ-loop
 minutes-requires c κs = search needs
@@ -84,12 +88,9 @@ add-minutes : tie.Need-add-minutes Inv-loop μ-loop
 add-minutes c =
     let loop-inv = c .before .before .before .before .before .before .loop .inv in
     let loop-test-taken = c .before .before .before .before .before .loop-test .taken in
-    let from = c .before .before .before .before .from .ensures in
-    let first = c .before .before .before .first .ensures in
     let fits3 = c .before .before .fits3 .ensures in
-    let segment = first ∙ ap segmentOf from in
     let keeps = sym fits3 ∙ not-false _ (c .before .if3 .left) in
-    let most = minutes-most _ _ _ _ _ _ loop-inv loop-test-taken _ segment keeps in
+    let most = minutes-most _ _ _ _ _ _ loop-inv loop-test-taken _ (segment (c .before .before .before)) keeps in
     let time = c .before .before .before .before .before .before .loop .inv .time in
     let is = c .minutes .ensures in record { fits = omega arith }
 
@@ -109,13 +110,11 @@ loop-again : tie.Need-loop-again Inv-loop μ-loop
 loop-again c =
     let loop-inv = c .before .before .before .before .before .before .before .loop .inv in
     let loop-test-taken = c .before .before .before .before .before .before .loop-test .taken in
-    let from = c .before .before .before .before .before .from .ensures in
-    let first = c .before .before .before .before .first .ensures in
     let fits3 = c .before .before .before .fits3 .ensures in
     let if3-left = c .before .before .if3 .left in
-    let segment = first ∙ ap segmentOf from in
     let keeps = sym fits3 ∙ not-false _ if3-left in
-    rw (c .higher .ensures, c .before .minutes .ensures) (turn _ _ _ _ _ _ loop-inv loop-test-taken _ segment keeps)
+    rw (c .higher .ensures, c .before .minutes .ensures)
+    (turn _ _ _ _ _ _ loop-inv loop-test-taken _ (segment (c .before .before .before .before)) keeps)
 
 cast-t15 : tie.Need-cast-t15 Inv-loop μ-loop
 cast-t15 c = let most = c .before .loop .inv .high-most in record { fits = omega arith }

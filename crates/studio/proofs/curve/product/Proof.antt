@@ -1,5 +1,4 @@
 -- Two bytes by four bytes: the product is below 2^48.
-use borrow.Author.Needs.{needs}
 use Prim.Native.Nat.{ℕ, _*_, _≤_, _<_}
 use native.Mathlib.Nat.{mul-le-mul}
 use native.Mathlib.Omega.{arith}
