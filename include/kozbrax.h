@@ -72,8 +72,8 @@ uint32_t kozbrax_digest(const uint8_t *leaves, size_t leaves_len, uint8_t *out, 
    Returns 0, or 21 where the lengths differ. Leaves, on 21: standing as it was. */
 uint32_t kozbrax_board(const uint32_t *targets, size_t targets_len, uint32_t *standing, size_t standing_len);
 
-/* What is reported of a firing schedule: the code, and where it is 0 the total of minutes and the peak, the highest target in °C; these
-   two are 0 where it is not. */
+/* What is reported of a firing schedule: the code, and where it is 0 the total of minutes and the peak, the highest target in degrees
+   Celsius; these two are 0 where it is not. */
 typedef struct {
   uint32_t code;
   uint32_t minutes;
@@ -81,10 +81,10 @@ typedef struct {
 } kozbrax_firing;
 
 /* The total time and the peak of the firing that an entry of any bytes holds. Such an entry is laid out as: the byte 3, a segment count
-   (1 byte) from 1 to 16, and for each segment 6 bytes, big-endian: rate in °C per hour (2 bytes, two's complement, below 0 when cooling)
-   from -600 to 600, target in °C (2) from 20 to 1,350, hold in minutes (2) from 0 to 5,999; it ends with its last segment. The kiln starts
-   at 20. A rate has the sign of its target minus the temperature before it, and is 0 exactly where they are equal. A segment lasts 60 times
-   the difference over the rate's size, rounded up to whole minutes, plus the hold; one with rate 0 lasts its hold.
+   (1 byte) from 1 to 16, and for each segment 6 bytes, big-endian: rate in degrees Celsius per hour (2 bytes, two's complement, below 0
+   when cooling) from -600 to 600, target in degrees Celsius (2) from 20 to 1,350, hold in minutes (2) from 0 to 5,999; it ends with its last
+   segment. The kiln starts at 20. A rate has the sign of its target minus the temperature before it, and is 0 exactly where they are equal.
+   A segment lasts 60 times the difference over the rate's size, rounded up to whole minutes, plus the hold; one with rate 0 lasts its hold.
    Returns the code: 19 where the entry is empty, longer than 1,024 bytes, begins with a byte other than 1, 2 or 3, or is a strike (2) that
    has not 5 bytes; else 26 where it is no schedule or breaks these rules; else 0. Writes nothing. */
 kozbrax_firing kozbrax_schedule(const uint8_t *entry, size_t entry_len);
