@@ -82,9 +82,10 @@ typedef struct {
 
 /* The total time and the peak of the firing that an entry of any bytes holds. Such an entry is laid out as: the byte 3, a segment count
    (1 byte) from 1 to 16, and for each segment 6 bytes, big-endian: rate in degrees Celsius per hour (2 bytes, two's complement, below 0
-   when cooling) from -600 to 600, target in degrees Celsius (2) from 20 to 1,350, hold in minutes (2) from 0 to 5,999; it ends with its last
-   segment. The kiln starts at 20. A rate has the sign of its target minus the temperature before it, and is 0 exactly where they are equal.
-   A segment lasts 60 times the difference over the rate's size, rounded up to whole minutes, plus the hold; one with rate 0 lasts its hold.
+   when cooling) from -600 to 600, target in degrees Celsius (2) from 20 to 1,350, hold in minutes (2) from 0 to 5,999. It ends with its
+   last segment. The kiln starts at 20. A rate has the sign of its target minus the temperature before it, and is 0 exactly where they are
+   equal. A segment lasts 60 times the difference over the rate's size, rounded up to whole minutes, plus the hold; with rate 0 it lasts
+   its hold.
    Returns the code: 19 where the entry is empty, longer than 1,024 bytes, begins with a byte other than 1, 2 or 3, or is a strike (2) that
    has not 5 bytes; else 26 where it is no schedule or breaks these rules; else 0. Writes nothing. */
 kozbrax_firing kozbrax_schedule(const uint8_t *entry, size_t entry_len);

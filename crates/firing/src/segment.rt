@@ -59,7 +59,7 @@ fn same_sign(a: i32, b: i32) -> bool
 }
 
 // The target minus the temperature before.
-fn change(before: u16, s: Segment) -> i32
+fn change_from(before: u16, s: Segment) -> i32
     ensures { λ r. ⌜ r ≡ change before s ⌝ }
 {
     s.target as i32 - before as i32
@@ -82,7 +82,7 @@ pub fn fits(before: u16, s: Segment) -> bool
     if 5999 < s.hold {
         return false;
     }
-    same_sign(rate, change(before, s))
+    same_sign(rate, change_from(before, s))
 }
 
 // How long the segment lasts from a temperature on: the change at the rate's size, rounded up to whole minutes, and the hold.
@@ -94,6 +94,6 @@ pub fn minutes(before: u16, s: Segment) -> u32
     if rate == 0 {
         return hold;
     }
-    let difference = size(change(before, s));
+    let difference = size(change_from(before, s));
     (60 * difference + (rate - 1)) / rate + hold
 }

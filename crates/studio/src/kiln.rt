@@ -56,9 +56,9 @@ pub fn summary(entry: &[u8]) {
         print::number(b"schedule that breaks the rules, code ", f.code as usize);
         return;
     }
-    print::number(b"schedule of ", bytes::byte_at(entry, 1) as usize);
-    print::number(b" segments, ", f.minutes as usize);
-    print::number(b" minutes, peak ", f.peak as usize);
+    print::number(b"schedule, segments ", bytes::byte_at(entry, 1) as usize);
+    print::number(b", minutes ", f.minutes as usize);
+    print::number(b", peak ", f.peak as usize);
 }
 
 // The report on the entry that a Read found, where it did not end with a refusal; with code 0 the segments and the curve too.

@@ -43,8 +43,8 @@ returns-4 c =
     let slow : natAbs (args .s .rate) ≤ 600 = rw (← rate-size (c .before .before .before .before .before .before .before)) if1-left in
     hold-long _ _ slow if2-left if3-left (c .if4 .taken)
 
-change-requires : tie.Need-change-requires
-change-requires c κs = search needs
+change-from-requires : tie.Need-change-from-requires
+change-from-requires c κs = search needs
 
 same-sign-requires : tie.Need-same-sign-requires
 same-sign-requires c κs = search needs
@@ -61,8 +61,8 @@ returns-5 c =
     let slow : natAbs (s .rate) ≤ 600 = rw (← rate-size (c .before .before .before .before .before .before .before .before .before))
     if1-left in
     let rate = widened w16 w32 (s .rate) tt (record { sfits = told }) in
-    let change = toZ-ofZ {w = w32} {z = c .before .change .result} (record { sfits = c .before .change .ok }) in
-    sign-decides _ _ slow if2-left if3-left _ if4-left (c .same-sign .ensures ∙ rw (rate, change, c .before .change .ensures))
+    let change = toZ-ofZ {w = w32} {z = c .before .change-from .result} (record { sfits = c .before .change-from .ok }) in
+    sign-decides _ _ slow if2-left if3-left _ if4-left (c .same-sign .ensures ∙ rw (rate, change, c .before .change-from .ensures))
 
 pub fits-spec : {M : Type 1} → statement M
 fits-spec =
@@ -74,6 +74,6 @@ fits-spec =
     returns-2
     returns-3
     returns-4
-    change-requires
+    change-from-requires
     same-sign-requires
     returns-5)

@@ -30,8 +30,8 @@ returns c =
     holds-alone _ _ (rw (← c .before .size .ensures
     ∙ ap natAbs (widened w16 w32 (args .s .rate) tt (record { sfits = struct-told-given-0-1 }))) (c .if1 .taken))
 
-change-requires : tie.Need-change-requires
-change-requires c κs = search needs
+change-from-requires : tie.Need-change-from-requires
+change-from-requires c κs = search needs
 
 size-requires-2 : tie.Need-size-requires-2
 size-requires-2 c κs = search needs
@@ -52,7 +52,7 @@ sizes c =
     let size = c .before .before .before .size .ensures in
     let s = c .before .before .before .before .before .before .before .args .s in
     let fits = c .before .before .before .before .struct-told .given .0 .1 in
-    let is = c .before .change in
+    let is = c .before .change-from in
     let back = toZ-ofZ {w = w32} {z = is .result} (record { sfits = is .ok }) in
     record {
       rate = size ∙ ap natAbs (widened w16 w32 (s .rate) tt (record { sfits = fits }));
@@ -95,7 +95,7 @@ minutes-spec =
     cast-size
     size-requires
     returns
-    change-requires
+    change-from-requires
     size-requires-2
     mul-result
     sub-result

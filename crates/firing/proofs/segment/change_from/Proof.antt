@@ -2,8 +2,8 @@ use native.Mathlib.Omega.{arith}
 use borrow.Author.Needs.{needs}
 use Rattle.firing.specs.Schedule.{change}
 use Rattle.firing.proofs.Signed.{difference-fits, difference}
-use Rattle.firing.proofs.segment.change.Statement.{statement}
-use Rattle.firing.proofs.segment.change.Tie as tie
+use Rattle.firing.proofs.segment.change_from.Statement.{statement}
+use Rattle.firing.proofs.segment.change_from.Tie as tie
 
 cast-result : tie.Need-cast-result
 cast-result c = search needs
@@ -24,5 +24,5 @@ returns c =
     let b = c .before .fits .before .fits in
     difference (c .before .args .s .target) (c .before .args .before) (omega arith) (omega arith)
 
-pub change-spec : {M : Type 1} → statement M
-change-spec = tie.close (tie.spec cast-result cast-result-2 sub-result returns)
+pub change-from-spec : {M : Type 1} → statement M
+change-from-spec = tie.close (tie.spec cast-result cast-result-2 sub-result returns)
