@@ -1,4 +1,4 @@
-// The shapes of entries: what inserts, what strikes, and how long each may be.
+// The shapes of entries (document 01, 'User'; document 02, d): what inserts, what strikes, and how long each may be.
 ghost use mathlib.Core.Path.{_≡_};
 ghost use Rattle.firing.specs.Entry.{entryFits, targetOf};
 use sha256::bytes;

@@ -1,4 +1,4 @@
-// A firing: its segments in order, from a kiln at 20 °C, with its total time and its peak.
+// A firing (document 02, d): its segments in order, from a kiln at 20 °C, with its total time and its peak.
 ghost use mathlib.Core.Path.{_≡_};
 ghost use Prim.Native.Nat.{_+_, _*_, max};
 ghost use Rattle.firing.specs.Schedule.{laidOut, rulesKept, reported, unreported};
@@ -19,7 +19,7 @@ fn refused(code: u32) -> Firing
     ensures { λ r. ⌜ r ≡ unreported code ⌝ }
 {
     Firing {
-        code: code,
+        code,
         minutes: 0,
         peak: 0,
     }
@@ -52,7 +52,7 @@ fn higher(a: u16, b: u16) -> u16
     a
 }
 
-// The total time and the peak of a firing; 19 for an entry of no shape, 26 for one that is no firing or breaks the rules.
+// The total time and the peak of a firing; 19 for an entry that has none of the shapes, 26 for one that is no firing or breaks the rules.
 pub fn report(entry: &[u8]) -> Firing
     ensures { λ r. ⌜ r ≡ reported (now (entry .entry)) ⌝ }
 {
@@ -80,12 +80,12 @@ pub fn report(entry: &[u8]) -> Firing
     }
     Firing {
         code: 0,
-        minutes: minutes,
+        minutes,
         peak: peak as u32,
     }
 }
 
-// 26 of a Write: whether an entry is no firing, or one that keeps the rules.
+// 26 of a Write: whether an entry is no firing, or one that keeps the rules. Such a firing has one of the shapes, so its report has code 0.
 pub fn rules_kept(entry: &[u8]) -> bool
     ensures { λ r. ⌜ r ≡ rulesKept (now (entry .entry)) ⌝ }
 {

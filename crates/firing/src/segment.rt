@@ -1,4 +1,4 @@
-// One segment of a firing: its six bytes, the rules that it keeps, and how long it lasts.
+// One segment of a firing (document 02, d): its six bytes, the rules that it keeps, and how long it lasts.
 ghost use mathlib.Core.Path.{_≡_};
 ghost use lib.IntN.{natAbs};
 ghost use Rattle.firing.specs.Schedule.{twosComplement, segmentOf, change, sameSign, segmentFits, segmentMinutes};
@@ -28,14 +28,11 @@ pub fn first(s: &[u8]) -> Segment
     let rate = signed(bytes::u16_at(s, 0));
     let target = bytes::u16_at(s, 2);
     let hold = bytes::u16_at(s, 4);
-    Segment {
-        rate: rate,
-        target: target,
-        hold: hold,
-    }
+    Segment { rate, target, hold }
 }
 
-// The size of a number. The lowest one's size has one bit more than a signed number of that width, so it is taken at 64 bits.
+// The size of a number. The lowest one of 32 bits, like the rate -32,768 of 16, has no size in as many bits with a sign, so it is negated
+// at 64.
 pub fn size(x: i32) -> u32
     ensures { λ r. ⌜ r ≡ natAbs x ⌝ }
 {
