@@ -87,7 +87,8 @@ typedef struct {
    equal. A segment lasts 60 times the difference over the rate's size, rounded up to whole minutes, plus the hold; with rate 0 it lasts
    its hold.
    Returns the code: 19 where the entry is empty, longer than 1,024 bytes, begins with a byte other than 1, 2 or 3, or is a strike (2) that
-   has not 5 bytes; else 26 where it is no schedule or breaks these rules; else 0. Writes nothing. */
+   has not 5 bytes; else 26 where it is no schedule or breaks these rules; else 0. Writes nothing.
+   Servers do not look at these rules: an entry that was read may begin with 3 and break them. */
 kozbrax_firing kozbrax_schedule(const uint8_t *entry, size_t entry_len);
 
 /* What a call of the server gives: its code, the answer's length (0 where none is written), and the store's used length after it. */
