@@ -1,6 +1,6 @@
 -- The shape of an entry, by the way through its tests.
-use mathlib.Core.Path.{_≡_, refl}
-use mathlib.Core.Bool.{Bool, true, false, _||_}
+use mathlib.Core.Path.{_≡_}
+use mathlib.Core.Bool.{true, false, or-true}
 use mathlib.Core.List.{List}
 use Prim.Native.Nat.{ℕ, _≤_, _<_}
 use native.Mathlib.Omega.{arith}
@@ -8,10 +8,6 @@ use lib.Dec.{eqb}
 use lib.ListN.{length, getD}
 use borrow.Author.Tests.{lt-leb, le-leb, ne-eqb}
 use Rattle.firing.specs.Entry.{strikes, isSchedule, entryFits}
-
-pub or-false : (t : Bool) → t ≡ t || false
-or-false true = refl
-or-false false = refl
 
 module _ (entry : List ℕ) where
   pub empty : length entry < 1 → false ≡ entryFits entry
@@ -22,16 +18,16 @@ module _ (entry : List ℕ) where
   unfolding entryFits
   too-long h = rw (lt-leb (length entry) 1024 h, le-leb 1 (length entry) (omega arith))
 
-  module _ (some : 1 ≤ length entry) (short : length entry ≤ 1024) (first : ℕ) (ef : first ≡ getD entry 0 0) where
-    pub strike-fits : first ≡ 2 → eqb (length entry) 5 ≡ entryFits entry
-    unfolding entryFits strikes isSchedule
-    strike-fits e = rw (le-leb 1 (length entry) some, le-leb (length entry) 1024 short, ← ef, e) (or-false (eqb (length entry) 5))
+  module _ (some : 1 ≤ length entry) (short : length entry ≤ 1024) where
+    pub strike-fits : strikes entry ≡ true → true ≡ entryFits entry
+    unfolding entryFits
+    strike-fits e = rw (le-leb 1 (length entry) some, le-leb (length entry) 1024 short, e, or-true (eqb (getD entry 0 0) 1))
 
-    pub text-fits : first ≡ 1 → true ≡ entryFits entry
-    unfolding entryFits strikes isSchedule
-    text-fits e = rw (le-leb 1 (length entry) some, le-leb (length entry) 1024 short, ← ef, e)
+    module _ (first : ℕ) (ef : first ≡ getD entry 0 0) where
+      pub text-fits : first ≡ 1 → true ≡ entryFits entry
+      unfolding entryFits
+      text-fits e = rw (le-leb 1 (length entry) some, le-leb (length entry) 1024 short, ← ef, e)
 
-    pub other-fits : (first ≡ 2 → ⊥) → (first ≡ 1 → ⊥) → eqb first 3 ≡ entryFits entry
-    unfolding entryFits strikes isSchedule
-    other-fits n m =
-        rw (le-leb 1 (length entry) some, le-leb (length entry) 1024 short, ← ef, ne-eqb first 2 n, ne-eqb first 1 m)
+      pub other-fits : strikes entry ≡ false → (first ≡ 1 → ⊥) → eqb first 3 ≡ entryFits entry
+      unfolding entryFits isSchedule
+      other-fits n m = rw (le-leb 1 (length entry) some, le-leb (length entry) 1024 short, n, ← ef, ne-eqb first 1 m)

@@ -17,9 +17,7 @@ use Rattle.sha256.proofs.Cases.{by-bool, cases-lt}
 use Rattle.firing.specs.declared.segment.Segment.{Segment}
 use Rattle.firing.specs.declared.schedule.Firing.{Firing}
 use Rattle.firing.specs.Entry.{strikes, isSchedule, entryFits, targetOf}
-use Rattle.firing.specs.Schedule.{twosComplement, segmentsIn, segmentCount, segments, laidOut, change, sameSign, segmentFits}
-use Rattle.firing.specs.Schedule.{segmentsFit, roundedUp, segmentMinutes, total, peak, start, scheduleFits, reportCode, unreported}
-use Rattle.firing.specs.Schedule.{reported}
+use Rattle.firing.specs.Schedule.{twosComplement, segmentsIn, segmentCount, segments, laidOut, change, sameSign, segmentFits, segmentsFit, roundedUp, segmentMinutes, total, peak, start, scheduleFits, reportCode, unreported, reported}
 use Rattle.firing.specs.Temperatures.{reached}
 use Rattle.firing.proofs.Signed.{pos-minus, low-half, lowered}
 use Rattle.firing.proofs.Segments.{keeps-rules, rounded-enough, rounded-least, segment-most}
@@ -141,6 +139,10 @@ peak-reached x (y ∷ ys) d =
     (λ h. (suc (i .0), (omega (arith, i .1 .0), i .1 .1 ∙ sym (max-eq-right (omega arith)))))
     (λ h. (0, (omega arith, sym (max-eq-left h))))
 
+peak-among : (xs : List Segment) (d : Segment) → 0 < length xs → (i : ℕ) × ((i < length xs) × (getD xs i d .target ≡ peak xs))
+peak-among [] d h = absurd (omega arith)
+peak-among (x ∷ xs) d h = peak-reached x xs d
+
 -- No segment lasts longer than 85,799 minutes, so a firing of 16 of them lasts at most 1,372,784. Examples has one that lasts so long.
 pub total-most : (before : ℕ) (xs : List Segment) → 20 ≤ before → before ≤ 1350 → segmentsFit before xs ≡ true
     → total before xs ≤ 85799 * length xs
@@ -178,3 +180,13 @@ module _ (entry : List ℕ) where
       let count = segments-counted (segmentCount entry) (drop 2 entry) in
       let most = total-most start (segments entry) (omega arith) (omega arith) (both .1) in
       subst (λ (f : Firing). f .minutes ≤ 1372784) (sym (report-runs e)) (omega arith)
+
+  -- its peak is the target of one of its segments, and no target is higher
+  pub report-peak : (d : Segment) → scheduleFits entry ≡ true
+      → ((i : ℕ) × ((i < length (segments entry)) × (getD (segments entry) i d .target ≡ reported entry .peak)))
+      × ((i : ℕ) → i < length (segments entry) → getD (segments entry) i d .target ≤ reported entry .peak)
+  unfolding scheduleFits segments
+  report-peak d e =
+      let some = layout entry (and-eq-true-iff (laidOut entry) _ .0 e .0) .some in
+      let count = segments-counted (segmentCount entry) (drop 2 entry) in
+      rw (report-runs e) (peak-among (segments entry) d (omega arith), λ i h. peak-highest (segments entry) i d h)

@@ -13,8 +13,7 @@ use Rattle.sha256.proofs.Cases.{by-bool}
 use Rattle.firing.specs.declared.segment.Segment.{Segment}
 use Rattle.firing.specs.declared.schedule.Firing.{Firing}
 use Rattle.firing.specs.Entry.{strikes, isSchedule, entryFits}
-use Rattle.firing.specs.Schedule.{segmentOf, segmentsIn, segmentCount, segments, laidOut, segmentFits, segmentsFit, segmentMinutes}
-use Rattle.firing.specs.Schedule.{total, peak, start, scheduleFits, rulesKept, reportCode, unreported, reported}
+use Rattle.firing.specs.Schedule.{segmentOf, segmentsIn, segmentCount, segments, laidOut, segmentFits, segmentsFit, segmentMinutes, total, peak, start, scheduleFits, rulesKept, reportCode, unreported, reported}
 use Rattle.firing.proofs.Segments.{keeps-rules, segment-most}
 
 -- the highest of three
@@ -147,7 +146,7 @@ module _ (entry : List ℕ) where
 
   -- what is reported, by the way through the checks
   module _ (shaped : entryFits entry ≡ true) where
-    pub refused-rules : scheduleFits entry ≡ false → unreported 26 ≡ reported entry
+    refused-rules : scheduleFits entry ≡ false → unreported 26 ≡ reported entry
     unfolding reported reportCode
     refused-rules e = rw (shaped, e)
 
@@ -171,7 +170,7 @@ module _ (entry : List ℕ) where
   refused-shape e = rw e
 
   -- the code of a report is the one that its checks give
-  pub code-is : reported entry .code ≡ reportCode entry
+  code-is : reported entry .code ≡ reportCode entry
   unfolding reported unreported
   code-is =
       let runs : Firing = record { code = 0; minutes = total start (segments entry); peak = peak (segments entry) } in

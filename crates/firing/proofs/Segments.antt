@@ -4,7 +4,7 @@ use mathlib.Core.Bool.{Bool, true, false, cond, and-eq-true-iff}
 use Prim.Native.Nat.{ℕ, suc, _+_, _-_, _*_, _/_, _≤_, _<_}
 use native.Mathlib.Nat.{mul-suc, suc-mul, div-mul-le-self, lt-div-mul-add, div-lt-iff-lt-mul}
 use native.Mathlib.Omega.{arith}
-use lib.Dec.{eqb, ltb}
+use lib.Dec.{eqb, leb, ltb}
 use lib.IntN.{pos, negsuc, natAbs, _-ℤ_}
 use borrow.Author.Tests.{lt-leb, le-leb, leb-true, eqb-false, eq-eqb, ne-eqb, ltb-true, ltb-false}
 use Rattle.sha256.proofs.Cases.{by-bool}
@@ -73,9 +73,8 @@ module _ (before : ℕ) (s : Segment) where
   unfolding segmentMinutes roundedUp
   moves n = rw (ne-eqb (natAbs (s .rate)) 0 n)
 
--- a segment that keeps the rules
+-- a segment that keeps the rules, but for the range of its rate
 pub record KeepsRules (before : ℕ) (s : Segment) : Type 0 where
-  pub slow : natAbs (s .rate) ≤ 600
   pub warm : 20 ≤ s .target
   pub low : s .target ≤ 1350
   pub short : s .hold ≤ 5999
@@ -84,12 +83,11 @@ pub record KeepsRules (before : ℕ) (s : Segment) : Type 0 where
 pub keeps-rules : (before : ℕ) (s : Segment) → segmentFits before s ≡ true → KeepsRules before s
 unfolding segmentFits
 keeps-rules before s e =
-    let rate = and-eq-true-iff _ _ .0 e in
+    let rate = and-eq-true-iff (leb (natAbs (s .rate)) 600) _ .0 e in
     let low = and-eq-true-iff _ _ .0 (rate .1) in
     let high = and-eq-true-iff _ _ .0 (low .1) in
     let hold = and-eq-true-iff _ _ .0 (high .1) in
     record {
-      slow = leb-true (natAbs (s .rate)) 600 (rate .0);
       warm = leb-true 20 (s .target) (low .0);
       low = leb-true (s .target) 1350 (high .0);
       short = leb-true (s .hold) 5999 (hold .0);

@@ -1,6 +1,6 @@
 -- Signed numbers and the bits that the machine holds for them: widening, differences of two counts, sizes and signs.
 use mathlib.Core.Path.{_≡_, refl, sym, ap, subst, _∙_}
-use mathlib.Core.Bool.{true, false, cond}
+use mathlib.Core.Bool.{true, false, cond, or-false, false≢true}
 use Prim.Native.Nat.{ℕ, zero, suc, _+_, _-_, _≤_, _<_}
 use native.Mathlib.Omega.{arith}
 use lib.Dec.{T, eqb, leb, ltb}
@@ -12,7 +12,6 @@ use mir.Facts.{sfits-widen, toZ-ofZ, toZ-pos}
 use borrow.Author.Tests.{ltb-true, ltb-false, lt-ltb, le-ltb, ne-eqb, eq-eqb}
 use Rattle.sha256.proofs.Cases.{by-bool}
 use Rattle.firing.specs.Schedule.{twosComplement, sameSign}
-use Rattle.firing.proofs.Entries.{or-false}
 
 -- A number of one width, cast to a wider one, is the same number.
 module _ (w w′ : Width) (z : ℤ) (wider : T (leb (hbits w) (hbits w′))) (f : SFits w z) where
@@ -98,7 +97,7 @@ module _ (x : ℤ) (f : SFits w32 x) (low : ltZ (toZ w32 (ofZ w32 x)) (pos 0) �
 module _ (x : ℤ) (f : SFits w32 x) (high : ltZ (toZ w32 (ofZ w32 x)) (pos 0) ≡ false) where
   plain : (y : ℤ) → SFits w32 y → ltZ y (pos 0) ≡ false → T (nonNeg y) × Fits w32 (natAbs y)
   plain (pos n) g e = (tt, record { fits = let h = g .sfits in omega arith })
-  plain (negsuc n) g e = let z : _≡_ {A = ℕ} 0 1 = cc in absurd (omega arith)
+  plain (negsuc n) g e = absurd (false≢true (sym e))
 
   pub plain-fits : T (nonNeg (toZ w32 (ofZ w32 x))) × Fits w32 (natAbs (toZ w32 (ofZ w32 x)))
   plain-fits = subst (λ (y : ℤ). T (nonNeg y) × Fits w32 (natAbs y)) (sym (toZ-ofZ f)) (plain x f (rw (← toZ-ofZ f) high))
@@ -107,14 +106,14 @@ module _ (x : ℤ) (f : SFits w32 x) (high : ltZ (toZ w32 (ofZ w32 x)) (pos 0) �
 pub sign-below : (a b : ℤ) → ltZ a (pos 0) ≡ true → ltZ b (pos 0) ≡ sameSign a b
 unfolding sameSign
 sign-below (pos n) b e = let z = ltb-true n 0 e in absurd (omega arith)
-sign-below (negsuc n) b e = rw (ne-eqb (suc n) 0 (λ q. omega arith)) (or-false (ltZ b (pos 0)))
+sign-below (negsuc n) b e = rw (ne-eqb (suc n) 0 (λ q. omega arith)) (sym (or-false (ltZ b (pos 0))))
 
 pub sign-above : (a b : ℤ) → ltZ (pos 0) a ≡ true → ltZ (pos 0) b ≡ sameSign a b
 unfolding sameSign
 sign-above (pos n) b e =
     let z = ltb-true 0 n e in
-    rw (le-ltb n 0 (omega arith), e, ne-eqb n 0 (λ q. omega arith)) (or-false (ltZ (pos 0) b))
-sign-above (negsuc n) b e = let z : _≡_ {A = ℕ} 0 1 = cc in absurd (omega arith)
+    rw (le-ltb n 0 (omega arith), e, ne-eqb n 0 (λ q. omega arith)) (sym (or-false (ltZ (pos 0) b)))
+sign-above (negsuc n) b e = absurd (false≢true e)
 
 pub sign-none : (a b : ℤ) → SFits w32 b → ltZ a (pos 0) ≡ false → ltZ (pos 0) a ≡ false → eqb (ofZ w32 b) 0 ≡ sameSign a b
 unfolding sameSign
@@ -123,4 +122,4 @@ sign-none (pos n) b f e g = let z = ltb-false 0 n g in rw (e, g, eq-eqb n 0 (ome
     zero-bits : (b : ℤ) → SFits w32 b → eqb (ofZ w32 b) 0 ≡ eqb (natAbs b) 0
     zero-bits (pos n) f = refl
     zero-bits (negsuc n) f = let h = f .sfits in rw (ne-eqb (suc n) 0 (λ q. omega arith), ne-eqb (ofZ w32 (negsuc n)) 0 (λ q. omega arith))
-sign-none (negsuc n) b f e g = let z : _≡_ {A = ℕ} 0 1 = cc in absurd (omega arith)
+sign-none (negsuc n) b f e g = absurd (false≢true (sym e))

@@ -8,7 +8,7 @@ use lib.ListN.{length, getD}
 use Rattle.sha256.specs.Bytes.{numberAt}
 
 unfoldable pub strikes : List ℕ → Bool
-strikes entry = eqb (getD entry 0 0) 2
+strikes entry = eqb (getD entry 0 0) 2 && eqb (length entry) 5
 
 unfoldable pub isSchedule : List ℕ → Bool
 isSchedule entry = eqb (getD entry 0 0) 3
@@ -16,10 +16,9 @@ isSchedule entry = eqb (getD entry 0 0) 3
 -- 19's shape: "entry length 0 or over 1,024, bad first byte or strike length"
 unfoldable pub entryFits : List ℕ → Bool
 entryFits entry =
-    leb 1 (length entry) && (leb (length entry) 1024
-    && (eqb (getD entry 0 0) 1 || ((strikes entry && eqb (length entry) 5) || isSchedule entry)))
+    leb 1 (length entry) && (leb (length entry) 1024 && (eqb (getD entry 0 0) 1 || (strikes entry || isSchedule entry)))
 
--- What the board's list of targets has for an entry: "0 for an insertion". Document 02, d: "On the board such an entry counts as an
--- insertion."
+-- The position that an entry strikes, which is what the board's list of targets has for it: "0 for an insertion". Document 02, d: "On the
+-- board such an entry counts as an insertion."
 unfoldable pub targetOf : List ℕ → ℕ
 targetOf entry = cond (strikes entry) (numberAt 4 entry 1) 0

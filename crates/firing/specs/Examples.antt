@@ -22,11 +22,11 @@ entry-shapes : (entryFits [] ≡ false) × (entryFits (0 ∷ []) ≡ false) × (
 unfolding entryFits strikes isSchedule
 entry-shapes = (refl, refl, refl, refl, refl, refl)
 
--- On the board a strike has its target, and a text and a schedule have 0.
+-- On the board a strike has its target, and a text, a schedule and what has the first byte of a strike but not its length have 0.
 board-targets : (targetOf (2 ∷ 0 ∷ 0 ∷ 1 ∷ 7 ∷ []) ≡ 263) × (targetOf (1 ∷ 0 ∷ 0 ∷ 1 ∷ 7 ∷ []) ≡ 0)
-    × (targetOf (3 ∷ 0 ∷ 0 ∷ 1 ∷ 7 ∷ []) ≡ 0)
+    × (targetOf (3 ∷ 0 ∷ 0 ∷ 1 ∷ 7 ∷ []) ≡ 0) × (targetOf (2 ∷ 0 ∷ 0 ∷ 7 ∷ []) ≡ 0)
 unfolding targetOf strikes numberAt
-board-targets = (refl, refl, refl)
+board-targets = (refl, refl, refl, refl)
 
 -- 32,767, -32,768 and -1
 two-bytes : (twosComplement 32767 ≡ pos 32767) × (twosComplement 32768 ≡ negsuc 32767) × (twosComplement 65535 ≡ negsuc 0)
