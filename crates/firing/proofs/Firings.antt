@@ -17,7 +17,7 @@ use Rattle.sha256.proofs.Cases.{by-bool, cases-lt}
 use Rattle.firing.specs.declared.segment.Segment.{Segment}
 use Rattle.firing.specs.declared.schedule.Firing.{Firing}
 use Rattle.firing.specs.Entry.{strikes, isSchedule, entryFits, targetOf}
-use Rattle.firing.specs.Schedule.{twosComplement, segmentsIn, segmentCount, segments, laidOut, change, sameSign, segmentFits, segmentsFit, roundedUp, segmentMinutes, total, peak, start, scheduleFits, reportCode, unreported, reported}
+use Rattle.firing.specs.Schedule.{twosComplement, segmentsIn, segmentCount, segments, laidOut, change, sameSign, signFits, segmentFits, segmentsFit, roundedUp, segmentMinutes, total, peak, start, scheduleFits, reportCode, unreported, reported}
 use Rattle.firing.specs.Temperatures.{reached}
 use Rattle.firing.proofs.Signed.{pos-minus, low-half, lowered}
 use Rattle.firing.proofs.Segments.{keeps-rules, rounded-enough, rounded-least, segment-most}
@@ -63,7 +63,7 @@ same-signs a b =
     a
 
 -- the sign of a difference of two temperatures
-change-signs : (a b : ℕ)
+pub change-signs : (a b : ℕ)
     → (ltZ (subℕ a b) (pos 0) ≡ ltb a b) × (ltZ (pos 0) (subℕ a b) ≡ ltb b a) × (eqb (natAbs (subℕ a b)) 0 ≡ eqb a b)
 change-signs a b =
     by-bool
@@ -88,15 +88,15 @@ change-signs a b =
     same-zero n t f g =
         cases-lt 0 n (λ h. ne-eqb n 0 (λ q. omega arith) ∙ sym (g h)) (λ h. let z : n ≡ 0 = omega arith in eq-eqb n 0 z ∙ sym (f z))
 
--- A segment that keeps the rules cools exactly if its target is below the temperature before, heats exactly if it is above, and has rate 0
--- exactly if they are equal.
-pub rate-signs : (before : ℕ) (s : Segment) → segmentFits before s ≡ true
+-- What the sign rule says: the segment cools exactly if its target is below the temperature before, heats exactly if it is above, and has
+-- rate 0 exactly if they are equal.
+pub rate-signs : (before : ℕ) (s : Segment) → signFits before s ≡ true
     → (ltZ (s .rate) (pos 0) ≡ ltb (s .target) before) × (ltZ (pos 0) (s .rate) ≡ ltb before (s .target))
     × (eqb (natAbs (s .rate)) 0 ≡ eqb (s .target) before)
-unfolding change
+unfolding signFits change
 rate-signs before s e =
     let d = change-signs (s .target) before in
-    let sign = subst (λ z. sameSign (s .rate) z ≡ true) (pos-minus (s .target) before) (keeps-rules before s e .sign) in
+    let sign = subst (λ z. sameSign (s .rate) z ≡ true) (pos-minus (s .target) before) e in
     let r = same-signs (s .rate) (subℕ (s .target) before) sign in
     (r .0 ∙ d .0, r .1 ∙ d .1, r .2 ∙ d .2)
 
@@ -151,11 +151,11 @@ total-most before [] least most e = omega arith
 total-most before (x ∷ xs) least most e =
     let both = and-eq-true-iff (segmentFits before x) _ .0 e in
     let k = keeps-rules before x (both .0) in
-    let one = segment-most before x least most k in
+    let one = segment-most 20 before before x (omega arith) least most k in
     let rest = total-most (x .target) xs (k .warm) (k .low) (both .1) in
     omega arith
 
-segments-counted : (n : ℕ) (s : List ℕ) → length (segmentsIn n s) ≡ n
+pub segments-counted : (n : ℕ) (s : List ℕ) → length (segmentsIn n s) ≡ n
 unfolding segmentsIn
 segments-counted zero s = refl
 segments-counted (suc n) s = ap suc (segments-counted n (drop 6 s))

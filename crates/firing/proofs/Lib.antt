@@ -4,3 +4,5 @@ pub mod Entries
 pub mod Segments
 pub mod Schedules
 pub mod Firings
+pub mod Starts
+pub mod WarmKilns

@@ -124,7 +124,7 @@ module _ (entry : List ℕ) where
 
       module _ (e : segmentFits before s ≡ true) where
         pub minutes-most : segmentMinutes before s ≤ 85799
-        minutes-most = segment-most before s (w .least) (w .most) (keeps-rules before s e)
+        minutes-most = segment-most 20 before before s (omega arith) (w .least) (w .most) (keeps-rules before s e)
 
         pub turn : Walk (left - 1) (at + 6) (s .target) (minutes + segmentMinutes before s) (max high (s .target))
         unfolding segmentsFit total peak
@@ -170,7 +170,7 @@ module _ (entry : List ℕ) where
   refused-shape e = rw e
 
   -- the code of a report is the one that its checks give
-  code-is : reported entry .code ≡ reportCode entry
+  pub code-is : reported entry .code ≡ reportCode entry
   unfolding reported unreported
   code-is =
       let runs : Firing = record { code = 0; minutes = total start (segments entry); peak = peak (segments entry) } in

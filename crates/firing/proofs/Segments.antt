@@ -2,14 +2,14 @@
 use mathlib.Core.Path.{_≡_, _∙_}
 use mathlib.Core.Bool.{Bool, true, false, cond, and-eq-true-iff}
 use Prim.Native.Nat.{ℕ, suc, _+_, _-_, _*_, _/_, _≤_, _<_}
-use native.Mathlib.Nat.{mul-suc, suc-mul, div-mul-le-self, lt-div-mul-add, div-lt-iff-lt-mul}
+use native.Mathlib.Nat.{le-trans, mul-suc, suc-mul, div-mul-le-self, lt-div-mul-add, div-lt-iff-lt-mul}
 use native.Mathlib.Omega.{arith}
 use lib.Dec.{eqb, leb, ltb}
 use lib.IntN.{pos, negsuc, natAbs, _-ℤ_}
 use borrow.Author.Tests.{lt-leb, le-leb, leb-true, eqb-false, eq-eqb, ne-eqb, ltb-true, ltb-false}
 use Rattle.sha256.proofs.Cases.{by-bool}
 use Rattle.firing.specs.declared.segment.Segment.{Segment}
-use Rattle.firing.specs.Schedule.{change, sameSign, segmentFits, roundedUp, segmentMinutes}
+use Rattle.firing.specs.Schedule.{change, signFits, segmentFits, roundedUp, segmentMinutes}
 use Rattle.firing.proofs.Signed.{pos-minus}
 
 -- rounding up: the least number that, taken b times, is not below a
@@ -58,7 +58,7 @@ module _ (before : ℕ) (s : Segment) where
         hold-long h =
             rw (le-leb (natAbs (s .rate)) 600 slow, le-leb 20 (s .target) warm, le-leb (s .target) 1350 low, lt-leb (s .hold) 5999 h)
 
-        pub sign-decides : (t : Bool) → s .hold ≤ 5999 → t ≡ sameSign (s .rate) (change before s) → t ≡ segmentFits before s
+        pub sign-decides : (t : Bool) → s .hold ≤ 5999 → t ≡ signFits before s → t ≡ segmentFits before s
         unfolding segmentFits
         sign-decides t h e =
             e
@@ -78,7 +78,7 @@ pub record KeepsRules (before : ℕ) (s : Segment) : Type 0 where
   pub warm : 20 ≤ s .target
   pub low : s .target ≤ 1350
   pub short : s .hold ≤ 5999
-  pub sign : sameSign (s .rate) (change before s) ≡ true
+  pub sign : signFits before s ≡ true
 
 pub keeps-rules : (before : ℕ) (s : Segment) → segmentFits before s ≡ true → KeepsRules before s
 unfolding segmentFits
@@ -94,13 +94,15 @@ keeps-rules before s e =
       sign = hold .1;
     }
 
--- the longest segment: 1,330 degrees at 1 °C per hour, and the longest hold
-pub segment-most : (before : ℕ) (s : Segment) → 20 ≤ before → before ≤ 1350 → KeepsRules before s → segmentMinutes before s ≤ 85799
+-- the longest segment: all degrees from the least temperature on at 1 °C per hour, and the longest hold
+pub segment-most : (least before kept : ℕ) (s : Segment) → least ≤ 20 → least ≤ before → before ≤ 1350 → KeepsRules kept s
+    → segmentMinutes before s ≤ 60 * (1350 - least) + 5999
 unfolding segmentMinutes change
-segment-most before s least most k =
+segment-most least before kept s cold lower upper k =
     let short = k .short in
-    let span = change-most 20 1350 (s .target) before (k .warm) (k .low) least most in
-    by-bool (λ t. cond t (s .hold) (roundedUp (60 * natAbs (change before s)) (natAbs (s .rate)) + s .hold) ≤ 85799)
+    let span = change-most least 1350 (s .target) before (le-trans cold (k .warm)) (k .low) lower upper in
+    by-bool
+    (λ t. cond t (s .hold) (roundedUp (60 * natAbs (change before s)) (natAbs (s .rate)) + s .hold) ≤ 60 * (1350 - least) + 5999)
     (eqb (natAbs (s .rate)) 0)
     (λ e. omega arith)
     (λ e.

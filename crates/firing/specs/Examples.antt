@@ -8,7 +8,7 @@ use lib.ListN.{replicate}
 use Rattle.sha256.specs.Bytes.{numberAt}
 use Rattle.firing.specs.Entry.{strikes, isSchedule, entryFits, targetOf}
 use Rattle.firing.specs.Schedule.{twosComplement, segmentOf, segmentsIn, segmentCount, segments, laidOut, change, sameSign}
-use Rattle.firing.specs.Schedule.{segmentFits, segmentsFit, roundedUp, segmentMinutes, total, peak, scheduleFits, rulesKept}
+use Rattle.firing.specs.Schedule.{signFits, segmentFits, segmentsFit, roundedUp, segmentMinutes, total, peak, scheduleFits, rulesKept}
 use Rattle.firing.specs.Schedule.{reportCode, reported}
 
 -- "Entries of 1,024 and 1,025 bytes: taken, 19."
@@ -52,7 +52,7 @@ reports : (reported bisque ≡ record { code = 0; minutes = 718; peak = 950 })
     × (reportCode (3 ∷ 1 ∷ 0 ∷ 7 ∷ 0 ∷ 21 ∷ 0 ∷ []) ≡ 26)
     × (reportCode (1 ∷ 65 ∷ []) ≡ 26)
     × (reportCode (2 ∷ 0 ∷ 0 ∷ 0 ∷ 7 ∷ 0 ∷ []) ≡ 19)
-unfolding reported reportCode scheduleFits laidOut segments segmentsIn segmentCount segmentOf segmentsFit segmentFits segmentMinutes roundedUp change sameSign total peak twosComplement numberAt entryFits strikes isSchedule
+unfolding reported reportCode scheduleFits laidOut segments segmentsIn segmentCount segmentOf segmentsFit segmentFits signFits segmentMinutes roundedUp change sameSign total peak twosComplement numberAt entryFits strikes isSchedule
 reports = (refl, refl, refl, refl, refl, refl, refl, refl)
 
 -- 26 in a Write: a text passes, a schedule with no segment does not.

@@ -46,12 +46,14 @@ unfoldable pub sameSign : ℤ → ℤ → Bool
 sameSign a b =
     (ltZ a (pos 0) && ltZ b (pos 0)) || ((ltZ (pos 0) a && ltZ (pos 0) b) || (eqb (natAbs a) 0 && eqb (natAbs b) 0))
 
--- "Rates lie in -600..600, targets in 20..1,350, holds in 0..5,999." "The rate has the sign of target minus the temperature before, and
--- is 0 exactly if they are equal."
+-- "The rate has the sign of target minus the temperature before, and is 0 exactly if they are equal."
+unfoldable pub signFits : ℕ → Segment → Bool
+signFits before s = sameSign (s .rate) (change before s)
+
+-- "Rates lie in -600..600, targets in 20..1,350, holds in 0..5,999." The rate has the sign that it must have.
 unfoldable pub segmentFits : ℕ → Segment → Bool
 segmentFits before s =
-    leb (natAbs (s .rate)) 600
-    && (leb 20 (s .target) && (leb (s .target) 1350 && (leb (s .hold) 5999 && sameSign (s .rate) (change before s))))
+    leb (natAbs (s .rate)) 600 && (leb 20 (s .target) && (leb (s .target) 1350 && (leb (s .hold) 5999 && signFits before s)))
 
 -- Segments in order: the temperature before the first is given, and before each other one it is the target before it.
 unfoldable pub segmentsFit : ℕ → List Segment → Bool

@@ -1,4 +1,5 @@
-// Firing schedules (document 02, d): entries with first byte 3; and the shapes that an entry may have.
+// Firing schedules (document 02, d and i): entries with first byte 3; and the shapes that an entry may have.
 pub mod entry;
 pub mod schedule;
 pub mod segment;
+pub mod warm;

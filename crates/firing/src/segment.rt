@@ -1,7 +1,7 @@
 // One segment of a firing (document 02, d): its six bytes, the rules that it keeps, and how long it lasts.
 ghost use mathlib.Core.Path.{_≡_};
 ghost use lib.IntN.{natAbs};
-ghost use Rattle.firing.specs.Schedule.{twosComplement, segmentOf, change, sameSign, segmentFits, segmentMinutes};
+ghost use Rattle.firing.specs.Schedule.{twosComplement, segmentOf, change, sameSign, signFits, segmentFits, segmentMinutes};
 use sha256::bytes;
 
 // A segment: the rate in °C per hour, below 0 when cooling, the target in °C, and the hold in minutes.
@@ -62,12 +62,18 @@ fn change_from(before: u16, s: Segment) -> i32
     s.target as i32 - before as i32
 }
 
+// Whether the rate has the sign of the change from a temperature on, and is 0 exactly if there is none.
+pub fn sign_fits(before: u16, s: Segment) -> bool
+    ensures { λ r. ⌜ r ≡ signFits before s ⌝ }
+{
+    same_sign(s.rate as i32, change_from(before, s))
+}
+
 // Whether rate, target and hold are in range and the rate has the sign of the change.
 pub fn fits(before: u16, s: Segment) -> bool
     ensures { λ r. ⌜ r ≡ segmentFits before s ⌝ }
 {
-    let rate = s.rate as i32;
-    if 600 < size(rate) {
+    if 600 < size(s.rate as i32) {
         return false;
     }
     if s.target < 20 {
@@ -79,7 +85,7 @@ pub fn fits(before: u16, s: Segment) -> bool
     if 5999 < s.hold {
         return false;
     }
-    same_sign(rate, change_from(before, s))
+    sign_fits(before, s)
 }
 
 // How long the segment lasts from a temperature on: the change at the rate's size, rounded up to whole minutes, and the hold.

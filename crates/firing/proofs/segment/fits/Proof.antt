@@ -1,7 +1,6 @@
 use mathlib.Core.Path.{_≡_, ap, _∙_}
 use Prim.Native.Nat.{_≤_}
 use lib.IntN.{natAbs}
-use mir.Facts.{toZ-ofZ}
 use mir.Syntax.{w16, w32}
 use borrow.Author.Needs.{needs}
 use Rattle.firing.proofs.Segments.{rate-out, target-low, target-high, hold-long, sign-decides}
@@ -9,8 +8,8 @@ use Rattle.firing.proofs.Signed.{widens, widened}
 use Rattle.firing.proofs.segment.fits.Statement.{statement}
 use Rattle.firing.proofs.segment.fits.Tie as tie
 
-cast-rate : tie.Need-cast-rate
-cast-rate c = widens w16 w32 (c .before .before .args .s .rate) tt (record { sfits = c .struct-told .given .0 .1 })
+cast-size : tie.Need-cast-size
+cast-size c = widens w16 w32 (c .before .before .args .s .rate) tt (record { sfits = c .struct-told .given .0 .1 })
 
 size-requires : tie.Need-size-requires
 size-requires c κs = search needs
@@ -43,37 +42,27 @@ returns-4 c =
     let slow : natAbs (args .s .rate) ≤ 600 = rw (← rate-size (c .before .before .before .before .before .before .before)) if1-left in
     hold-long _ _ slow if2-left if3-left (c .if4 .taken)
 
-change-from-requires : tie.Need-change-from-requires
-change-from-requires c κs = search needs
-
-same-sign-requires : tie.Need-same-sign-requires
-same-sign-requires c κs = search needs
+sign-fits-requires : tie.Need-sign-fits-requires
+sign-fits-requires c κs = search needs
 
 returns-5 : tie.Need-returns-5
 returns-5 c =
-    let c8 = c .before .before .before .before .before .before .before .before in
-    let if1-left = c8 .if1 .left in
-    let if2-left = c .before .before .before .before .before .before .if2 .left in
-    let if3-left = c .before .before .before .before .if3 .left in
-    let if4-left = c .before .before .if4 .left in
-    let s = c8 .before .before .before .before .args .s in
-    let told = c8 .before .before .struct-told .given .0 .1 in
-    let slow : natAbs (s .rate) ≤ 600 = rw (← rate-size (c .before .before .before .before .before .before .before .before .before))
-    if1-left in
-    let rate = widened w16 w32 (s .rate) tt (record { sfits = told }) in
-    let change = toZ-ofZ {w = w32} {z = c .before .change-from .result} (record { sfits = c .before .change-from .ok }) in
-    sign-decides _ _ slow if2-left if3-left _ if4-left (c .same-sign .ensures ∙ rw (rate, change, c .before .change-from .ensures))
+    let if1-left = c .before .before .before .before .before .before .before .if1 .left in
+    let if2-left = c .before .before .before .before .before .if2 .left in
+    let if3-left = c .before .before .before .if3 .left in
+    let if4-left = c .before .if4 .left in
+    let size = rate-size (c .before .before .before .before .before .before .before .before) in
+    sign-decides _ _ (rw (← size) if1-left) if2-left if3-left _ if4-left (c .sign-fits .ensures)
 
 pub fits-spec : {M : Type 1} → statement M
 fits-spec =
     tie.close
     (tie.spec
-    cast-rate
+    cast-size
     size-requires
     returns
     returns-2
     returns-3
     returns-4
-    change-from-requires
-    same-sign-requires
+    sign-fits-requires
     returns-5)
