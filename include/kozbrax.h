@@ -91,6 +91,21 @@ typedef struct {
    Servers do not look at these rules: an entry that was read may begin with 3 and break them. */
 kozbrax_firing kozbrax_schedule(const uint8_t *entry, size_t entry_len);
 
+/* What is reported of a firing schedule whose start lies in a range: the code, and where it is 0 the least and the greatest total of
+   minutes; these two are 0 where it is not. */
+typedef struct {
+  uint32_t code;
+  uint32_t least;
+  uint32_t greatest;
+} kozbrax_totals;
+
+/* The least and the greatest total time of the firing that an entry of any bytes holds, where the kiln starts at some whole temperature
+   from `from` to `to` degrees Celsius, both of them included, instead of 20. Each of the two is the total from some start in the range.
+   Returns the code: 19 or 26 where kozbrax_schedule does, which still judges from 20; else 32 where `from` is above `to`, one of them is
+   above 1,350, or the first rate, for a start in the range, has not the sign of the first target minus the start, 0 exactly where these are
+   equal; else 0. Writes nothing. */
+kozbrax_totals kozbrax_schedule_warm(const uint8_t *entry, size_t entry_len, uint32_t from, uint32_t to);
+
 /* What a call of the server gives: its code, the answer's length (0 where none is written), and the store's used length after it. */
 typedef struct {
   uint32_t code;

@@ -2,7 +2,7 @@
 use mathlib.Core.Path.{_≡_, _∙_}
 use mathlib.Core.Bool.{Bool, true, false, cond, and-eq-true-iff}
 use Prim.Native.Nat.{ℕ, suc, _+_, _-_, _*_, _/_, _≤_, _<_}
-use native.Mathlib.Nat.{le-trans, mul-suc, suc-mul, div-mul-le-self, lt-div-mul-add, div-lt-iff-lt-mul}
+use native.Mathlib.Nat.{le-trans, mul-suc, suc-mul, div-mul-le-self, lt-div-mul-add, le-div-iff-mul-le, div-lt-iff-lt-mul}
 use native.Mathlib.Omega.{arith}
 use lib.Dec.{eqb, leb, ltb}
 use lib.IntN.{pos, negsuc, natAbs, _-ℤ_}
@@ -28,13 +28,20 @@ rounded-most a (suc b) h =
     let less = div-lt-iff-lt-mul {k = suc b} {x = a + (suc b - 1)} {y = suc a} (omega arith) .1 below in
     omega arith
 
--- the difference of two temperatures is no greater than the span that both lie in
-pub change-most : (least most a b : ℕ) → least ≤ a → a ≤ most → least ≤ b → b ≤ most → natAbs (pos a -ℤ pos b) ≤ most - least
-change-most least most a b la ma lb mb =
+pub rounded-monotone : (a b r : ℕ) → 0 < r → a ≤ b → roundedUp a r ≤ roundedUp b r
+unfolding roundedUp
+rounded-monotone a b r h l = le-div-iff-mul-le {k = r} h .1 (le-trans (div-mul-le-self (a + (r - 1)) r) (omega arith))
+
+-- the size of the difference of two temperatures; it is no greater than the span that both lie in
+pub distance : (a b : ℕ) → natAbs (pos a -ℤ pos b) ≡ (a - b) + (b - a)
+distance a b =
     rw (pos-minus a b)
-    (by-bool (λ t. natAbs (cond t (negsuc (b - suc a)) (pos (a - b))) ≤ most - least) (ltb a b)
+    (by-bool (λ t. natAbs (cond t (negsuc (b - suc a)) (pos (a - b))) ≡ (a - b) + (b - a)) (ltb a b)
     (λ e. let h = ltb-true a b e in omega arith)
     (λ e. let h = ltb-false a b e in omega arith))
+
+pub change-most : (least most a b : ℕ) → least ≤ a → a ≤ most → least ≤ b → b ≤ most → natAbs (pos a -ℤ pos b) ≤ most - least
+change-most least most a b la ma lb mb = rw (distance a b) (omega arith)
 
 module _ (before : ℕ) (s : Segment) where
   pub rate-out : 600 < natAbs (s .rate) → false ≡ segmentFits before s

@@ -1,23 +1,23 @@
 -- Whole starts in a range: what they give, combined; the sign rule from all of them; and how the total depends on the start.
 use mathlib.Core.Path.{_≡_, refl, sym, subst, _∙_}
-use mathlib.Core.Bool.{Bool, true, false, cond, _&&_, _||_, and-eq-true-iff, false≢true}
+use mathlib.Core.Bool.{Bool, true, false, cond, _&&_, _||_, and-false, and-eq-true-iff}
 use mathlib.Core.List.{List, _∷_}
-use Prim.Native.Nat.{ℕ, zero, suc, _+_, _-_, _*_, _/_, min, max, _≤_, _<_}
-use native.Mathlib.Nat.{le-trans, le-refl, min-le-left, min-le-right, le-max-left, le-max-right, div-mul-le-self, le-div-iff-mul-le}
+use Prim.Native.Nat.{ℕ, zero, suc, _+_, _-_, _*_, min, max, _≤_, _<_}
 use native.Mathlib.Omega.{arith, min-cases, max-cases}
 use lib.Dec.{eqb, leb, ltb}
-use lib.IntN.{pos, negsuc, natAbs, subℕ}
+use lib.IntN.{pos, natAbs}
 use lib.Signed.{ltZ}
-use borrow.Author.Tests.{ltb-true, ltb-false, lt-ltb, le-ltb, lt-leb, le-leb, eq-eqb, ne-eqb, eqb-true, eqb-false, leb-true}
+use borrow.Author.Tests.{ltb-true, lt-ltb, le-ltb, lt-leb, le-leb, eq-eqb, ne-eqb, eqb-true, eqb-false, leb-true}
 use Rattle.sha256.proofs.Cases.{by-bool, cases-lt}
 use Rattle.firing.specs.declared.segment.Segment.{Segment}
 use Rattle.firing.specs.Schedule.{change, sameSign, signFits, roundedUp, segmentMinutes, total}
 use Rattle.firing.specs.Warm.{combinedFrom, overStarts, startsFit}
 use Rattle.firing.proofs.Signed.{pos-minus}
+use Rattle.firing.proofs.Segments.{rounded-monotone, distance}
 use Rattle.firing.proofs.Firings.{change-signs, rate-signs}
 
 -- What is combined is what one of the starts gives, where combining two picks one of them.
-pub combined-reached : {A : Type 0} (combine : A → A → A) → ((x y : A) (P : A → Type 0) → P x → P y → P (combine x y))
+combined-reached : {A : Type 0} (combine : A → A → A) → ((x y : A) (P : A → Type 0) → P x → P y → P (combine x y))
     → (f : ℕ → A) (a n : ℕ) → (t : ℕ) × ((a ≤ t) × ((t ≤ a + n) × (combinedFrom combine f a n ≡ f t)))
 unfolding combinedFrom
 combined-reached combine picks f a zero = (a, (omega arith, (omega arith, refl)))
@@ -28,7 +28,7 @@ combined-reached combine picks f a (suc n) =
     (r .0, (omega (arith, r .1 .0), (omega (arith, r .1 .1 .0), r .1 .1 .1)))
 
 -- It is related to what each start gives, where two combined are related to what either is related to.
-pub combined-related : {A : Type 0} (combine : A → A → A) (R : A → A → Type 0) → ((x : A) → R x x)
+combined-related : {A : Type 0} (combine : A → A → A) (R : A → A → Type 0) → ((x : A) → R x x)
     → ((x y z : A) → R x z → R (combine x y) z) → ((x y z : A) → R y z → R (combine x y) z)
     → (f : ℕ → A) (a n t : ℕ) → a ≤ t → t ≤ a + n → R (combinedFrom combine f a n) (f t)
 unfolding combinedFrom
@@ -48,24 +48,28 @@ module _ (a b : ℕ) (order : a ≤ b) where
     pub least-reached : (t : ℕ) × ((a ≤ t) × ((t ≤ b) × (overStarts min f a b ≡ f t)))
     unfolding overStarts
     least-reached =
-        let r = combined-reached min (λ x y P p q. min-cases x y (P (min x y)) (λ _ e. subst P (sym e) p) (λ _ e. subst P (sym e) q)) f a (b - a) in
+        let r = combined-reached min (λ x y P p q. min-cases x y (P (min x y)) (λ _ e. subst P (sym e) p) (λ _ e. subst P (sym e) q)) f a
+        (b - a) in
         (r .0, (r .1 .0, (omega (arith, r .1 .1 .0), r .1 .1 .1)))
 
     pub greatest-reached : (t : ℕ) × ((a ≤ t) × ((t ≤ b) × (overStarts max f a b ≡ f t)))
     unfolding overStarts
     greatest-reached =
-        let r = combined-reached max (λ x y P p q. max-cases x y (P (max x y)) (λ _ e. subst P (sym e) q) (λ _ e. subst P (sym e) p)) f a (b - a) in
+        let r = combined-reached max (λ x y P p q. max-cases x y (P (max x y)) (λ _ e. subst P (sym e) q) (λ _ e. subst P (sym e) p)) f a
+        (b - a) in
         (r .0, (r .1 .0, (omega (arith, r .1 .1 .0), r .1 .1 .1)))
 
     pub least-below : (t : ℕ) → a ≤ t → t ≤ b → overStarts min f a b ≤ f t
     unfolding overStarts
     least-below t l m =
-        combined-related min (λ x z. x ≤ z) (λ x. omega arith) (λ x y z h. omega arith) (λ x y z h. omega arith) f a (b - a) t l (omega arith)
+        combined-related min (λ x z. x ≤ z) (λ x. omega arith) (λ x y z h. omega arith) (λ x y z h. omega arith) f a (b - a) t l
+        (omega arith)
 
     pub greatest-above : (t : ℕ) → a ≤ t → t ≤ b → f t ≤ overStarts max f a b
     unfolding overStarts
     greatest-above t l m =
-        combined-related max (λ x z. z ≤ x) (λ x. omega arith) (λ x y z h. omega arith) (λ x y z h. omega arith) f a (b - a) t l (omega arith)
+        combined-related max (λ x z. z ≤ x) (λ x. omega arith) (λ x y z h. omega arith) (λ x y z h. omega arith) f a (b - a) t l
+        (omega arith)
 
   -- a test passes in all starts together exactly if it passes in each
   module _ (p : ℕ → Bool) where
@@ -83,7 +87,8 @@ module _ (a b : ℕ) (order : a ≤ b) where
 
 -- the sign rule by three tests of target and start
 sign-tests : (t : ℕ) (s : Segment) → signFits t s
-    ≡ (ltZ (s .rate) (pos 0) && ltb (s .target) t) || ((ltZ (pos 0) (s .rate) && ltb t (s .target)) || (eqb (natAbs (s .rate)) 0 && eqb (s .target) t))
+    ≡ (ltZ (s .rate) (pos 0) && ltb (s .target) t)
+    || ((ltZ (pos 0) (s .rate) && ltb t (s .target)) || (eqb (natAbs (s .rate)) 0 && eqb (s .target) t))
 unfolding signFits sameSign change
 sign-tests t s = let d = change-signs (s .target) t in rw (pos-minus (s .target) t, d .0, d .1, d .2)
 
@@ -115,6 +120,9 @@ sign-between s a b t l m ea eb =
 
 -- whether a range of starts fits, by the way through its tests
 module _ (s : Segment) (a b : ℕ) where
+  abbrev keeps-sign : ℕ → Bool
+  keeps-sign t = signFits t s
+
   pub ends-crossed : b < a → false ≡ startsFit s a b
   unfolding startsFit
   ends-crossed h = rw (lt-leb a b h)
@@ -122,27 +130,23 @@ module _ (s : Segment) (a b : ℕ) where
   module _ (order : a ≤ b) where
     pub end-high : 1350 < b → false ≡ startsFit s a b
     unfolding startsFit
-    end-high h =
-        rw (le-leb a b order) (by-bool (λ t. false ≡ t && (leb b 1350 && overStarts _&&_ (λ (t : ℕ). signFits t s) a b)) (leb a 1350)
-        (λ _. rw (lt-leb b 1350 h)) (λ _. refl))
+    end-high h = rw (le-leb a b order, lt-leb b 1350 h) (sym (and-false (leb a 1350)))
 
     module _ (low : b ≤ 1350) where
-      in-range : startsFit s a b ≡ overStarts _&&_ (λ (t : ℕ). signFits t s) a b
+      sign-decides : startsFit s a b ≡ overStarts _&&_ keeps-sign a b
       unfolding startsFit
-      in-range = rw (le-leb a b order, le-leb a 1350 (omega arith), le-leb b 1350 low)
+      sign-decides = rw (le-leb a b order, le-leb a 1350 (omega arith), le-leb b 1350 low)
 
-      pub lower-end : signFits a s ≡ false → false ≡ startsFit s a b
-      lower-end e =
-          rw in-range (by-bool (λ v. false ≡ v) (overStarts _&&_ (λ (t : ℕ). signFits t s) a b)
-          (λ h. sym e ∙ each-start a b order (λ (t : ℕ). signFits t s) h a (omega arith) order) (λ _. refl))
+      pub start-breaks : (t : ℕ) → a ≤ t → t ≤ b → signFits t s ≡ false → false ≡ startsFit s a b
+      start-breaks t l m e =
+          rw sign-decides (by-bool (λ v. false ≡ v) (overStarts _&&_ keeps-sign a b)
+          (λ h. sym e ∙ each-start a b order keeps-sign h t l m) (λ _. refl))
 
-      pub upper-end : signFits a s ≡ true → signFits b s ≡ startsFit s a b
-      upper-end ea =
-          rw in-range (by-bool (λ v. v ≡ overStarts _&&_ (λ (t : ℕ). signFits t s) a b) (signFits b s)
-          (λ eb. sym (all-starts a b order (λ (t : ℕ). signFits t s) (λ t l m. sign-between s a b t l m ea eb)))
-          (λ eb.
-          by-bool (λ v. false ≡ v) (overStarts _&&_ (λ (t : ℕ). signFits t s) a b)
-          (λ h. sym eb ∙ each-start a b order (λ (t : ℕ). signFits t s) h b order (omega arith)) (λ _. refl)))
+      pub upper-end-decides : signFits a s ≡ true → signFits b s ≡ startsFit s a b
+      upper-end-decides ea =
+          by-bool (λ v. v ≡ startsFit s a b) (signFits b s)
+          (λ eb. sym (sign-decides ∙ all-starts a b order keeps-sign (λ t l m. sign-between s a b t l m ea eb)))
+          (start-breaks b order (omega arith))
 
 -- A range of starts fits exactly if its ends are in order and in their range and the sign rule holds from every start in it.
 pub record Fitting (s : Segment) (a b : ℕ) : Type 0 where
@@ -162,18 +166,15 @@ starts-fit s a b e =
       order = is;
       lower = leb-true a 1350 (lower .0);
       upper = leb-true b 1350 (upper .0);
-      sign = each-start a b is (λ (t : ℕ). signFits t s) (upper .1);
+      sign = each-start a b is (keeps-sign s a b) (upper .1);
     }
 
 pub fitting-starts : (s : Segment) (a b : ℕ) → Fitting s a b → startsFit s a b ≡ true
-fitting-starts s a b f = in-range s a b (f .order) (f .upper) ∙ all-starts a b (f .order) (λ (t : ℕ). signFits t s) (f .sign)
+fitting-starts s a b f = sign-decides s a b (f .order) (f .upper) ∙ all-starts a b (f .order) (keeps-sign s a b) (f .sign)
 
 -- A segment's time does not fall with the distance.
-div-monotone : (x y r : ℕ) → 0 < r → x ≤ y → x / r ≤ y / r
-div-monotone x y r h l = le-div-iff-mul-le {k = r} h .1 (le-trans (div-mul-le-self x r) l)
-
 farther-longer : (s : Segment) (t u : ℕ) → natAbs (change t s) ≤ natAbs (change u s) → segmentMinutes t s ≤ segmentMinutes u s
-unfolding segmentMinutes roundedUp
+unfolding segmentMinutes
 farther-longer s t u h =
     by-bool
     (λ v. cond v (s .hold) (roundedUp (60 * natAbs (change t s)) (natAbs (s .rate)) + s .hold)
@@ -182,33 +183,19 @@ farther-longer s t u h =
     (λ e. omega arith)
     (λ e.
     let some = eqb-false (natAbs (s .rate)) 0 e in
-    let less = div-monotone (60 * natAbs (change t s) + (natAbs (s .rate) - 1)) (60 * natAbs (change u s) + (natAbs (s .rate) - 1))
-    (natAbs (s .rate)) (omega arith) (omega arith) in
+    let time = rounded-monotone (60 * natAbs (change t s)) (60 * natAbs (change u s)) (natAbs (s .rate)) (omega arith) (omega arith) in
     omega arith)
-
-distance-up : (a b : ℕ) → b ≤ a → natAbs (subℕ a b) ≡ a - b
-distance-up a b h = rw (le-ltb a b h)
-
-distance-down : (a b : ℕ) → a ≤ b → natAbs (subℕ a b) ≡ b - a
-distance-down a b h =
-    by-bool (λ v. natAbs (cond v (negsuc (b - suc a)) (pos (a - b))) ≡ b - a) (ltb a b)
-    (λ e. let l = ltb-true a b e in omega arith)
-    (λ e. let l = ltb-false a b e in omega arith)
 
 -- While the first segment heats, the total does not rise with the start; while it cools, the total does not fall.
 module _ (s : Segment) (rest : List Segment) (t u : ℕ) (warmer : t ≤ u) where
   pub total-heating : u ≤ s .target → total u (s ∷ rest) ≤ total t (s ∷ rest)
   unfolding total change
   total-heating h =
-      let less =
-      farther-longer s u t
-      (rw (pos-minus (s .target) t, pos-minus (s .target) u, distance-up (s .target) u h, distance-up (s .target) t (omega arith)) (omega arith)) in
+      let time = farther-longer s u t (rw (distance (s .target) t, distance (s .target) u) (omega arith)) in
       omega arith
 
   pub total-cooling : s .target ≤ t → total t (s ∷ rest) ≤ total u (s ∷ rest)
   unfolding total change
   total-cooling h =
-      let less =
-      farther-longer s t u
-      (rw (pos-minus (s .target) t, pos-minus (s .target) u, distance-down (s .target) u (omega arith), distance-down (s .target) t h) (omega arith)) in
+      let time = farther-longer s t u (rw (distance (s .target) t, distance (s .target) u) (omega arith)) in
       omega arith

@@ -1,4 +1,4 @@
--- Computed examples: document 01's own cases of entries, and firings at the ends of their ranges.
+-- Computed examples: document 01's own cases of entries, firings at the ends of their ranges, and starts at the ends of theirs.
 use mathlib.Core.Path.{_≡_, refl}
 use mathlib.Core.Bool.{true, false}
 use mathlib.Core.List.{List, [], _∷_}
@@ -10,6 +10,7 @@ use Rattle.firing.specs.Entry.{strikes, isSchedule, entryFits, targetOf}
 use Rattle.firing.specs.Schedule.{twosComplement, segmentOf, segmentsIn, segmentCount, segments, laidOut, change, sameSign}
 use Rattle.firing.specs.Schedule.{signFits, segmentFits, segmentsFit, roundedUp, segmentMinutes, total, peak, scheduleFits, rulesKept}
 use Rattle.firing.specs.Schedule.{reportCode, reported}
+use Rattle.firing.specs.Warm.{combinedFrom, overStarts, startsFit, warmCode, warmReported}
 
 -- "Entries of 1,024 and 1,025 bytes: taken, 19."
 entries-of-1024-and-1025 : (entryFits (1 ∷ replicate 1023 65) ≡ true) × (entryFits (1 ∷ replicate 1024 65) ≡ false)
@@ -59,3 +60,20 @@ reports = (refl, refl, refl, refl, refl, refl, refl, refl)
 written-entries : (rulesKept (1 ∷ 65 ∷ []) ≡ true) × (rulesKept (3 ∷ 0 ∷ []) ≡ false)
 unfolding rulesKept scheduleFits laidOut segmentCount isSchedule
 written-entries = (refl, refl)
+
+-- A kiln still warm. The first firing from 0 to 40 °C: 570 minutes at most to 950, 546 at least, and 160 more; the longest from 0 alone, which
+-- no total is above; to 22 °C at 7 °C an hour from 20 and from 21; rate 0 from 20 alone. 32: a start at the first target; rate 0 from 19 on,
+-- and up to 21; ends that are crossed; ends above 1,350. 26 and 19 come before it.
+warm-reports : (warmReported bisque 0 40 ≡ record { code = 0; least = 706; greatest = 730 })
+    × (warmReported (3 ∷ 16 ∷ upAndDown 8) 0 0 ≡ record { code = 0; least = 1373984; greatest = 1373984 })
+    × (warmReported (3 ∷ 1 ∷ 0 ∷ 7 ∷ 0 ∷ 22 ∷ 0 ∷ 0 ∷ []) 20 21 ≡ record { code = 0; least = 9; greatest = 18 })
+    × (warmReported (3 ∷ 1 ∷ 0 ∷ 0 ∷ 0 ∷ 20 ∷ 0 ∷ 30 ∷ []) 20 20 ≡ record { code = 0; least = 30; greatest = 30 })
+    × (warmCode bisque 949 950 ≡ 32)
+    × (warmCode (3 ∷ 1 ∷ 0 ∷ 0 ∷ 0 ∷ 20 ∷ 0 ∷ 30 ∷ []) 19 20 ≡ 32)
+    × (warmCode (3 ∷ 1 ∷ 0 ∷ 0 ∷ 0 ∷ 20 ∷ 0 ∷ 30 ∷ []) 20 21 ≡ 32)
+    × (warmCode bisque 40 39 ≡ 32)
+    × (warmCode bisque 1351 1351 ≡ 32)
+    × (warmCode (3 ∷ 0 ∷ []) 40 39 ≡ 26)
+    × (warmCode (2 ∷ 0 ∷ 0 ∷ 0 ∷ 7 ∷ 0 ∷ []) 40 39 ≡ 19)
+unfolding warmReported warmCode startsFit overStarts combinedFrom signFits reportCode scheduleFits laidOut segments segmentsIn segmentCount segmentOf segmentsFit segmentFits segmentMinutes roundedUp change sameSign total twosComplement numberAt entryFits strikes isSchedule
+warm-reports = (refl, refl, refl, refl, refl, refl, refl, refl, refl, refl, refl)

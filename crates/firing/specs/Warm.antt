@@ -22,7 +22,7 @@ overStarts combine f a b = combinedFrom combine f a (b - a)
 unfoldable pub startsFit : Segment → ℕ → ℕ → Bool
 startsFit first a b = leb a b && (leb a 1350 && (leb b 1350 && overStarts _&&_ (λ s. signFits s first) a b))
 
--- "32 .. after 26, still judged from 20", and 19 and 26 as in a report.
+-- 32 comes "after 26, still judged from 20"; 19 and 26 are those of the schedule's report. The first segment stands after two bytes.
 unfoldable pub warmCode : List ℕ → ℕ → ℕ → ℕ
 warmCode entry a b =
     cond (eqb (reportCode entry) 0) (cond (startsFit (segmentOf (drop 2 entry)) a b) 0 32) (reportCode entry)

@@ -26,8 +26,8 @@ fn refused(code: u32) -> Totals
     }
 }
 
-// Whether a range is one of temperatures and the first rate has the sign that it must have from every start in it. It has from every start
-// what it has from both ends, since those on one side of the target lie together.
+// Whether a range of starts is in order and within 0 to 1,350, and the first rate has the sign that it must have from every start in it:
+// then it has it from both ends, and what has it from both ends lies on one side of the target with all that is between them.
 fn starts_fit(first: Segment, from: u32, to: u32) -> bool
     ensures { λ r. ⌜ r ≡ startsFit first from to ⌝ }
 {
@@ -43,8 +43,9 @@ fn starts_fit(first: Segment, from: u32, to: u32) -> bool
     segment::sign_fits(to as u16, first)
 }
 
-// The least and the greatest total time of a firing from starts in a range; 19 and 26 as in its report from 20, then 32. Only the first
-// segment's time depends on the start. What keeps the rules from 20 begins with no cooling, so the nearer end, the upper one, has the least.
+// The least and the greatest total time of a firing from the whole starts in a range; 19 and 26 as in its report, which is judged from 20,
+// then 32. Only the first segment's time depends on the start. A firing that keeps the rules from 20 does not begin by cooling, so the
+// upper end of the range is the nearest to the first target, and has the least total.
 pub fn report(entry: &[u8], from: u32, to: u32) -> Totals
     ensures { λ r. ⌜ r ≡ warmReported (now (entry .entry)) from to ⌝ }
 {

@@ -1,7 +1,8 @@
 use mathlib.Core.Path.{sym, _∙_}
+use native.Mathlib.Omega.{arith}
 use borrow.Author.Tests.{not-true, not-false}
 use borrow.Author.Needs.{needs}
-use Rattle.firing.proofs.Starts.{ends-crossed, end-high, lower-end, upper-end}
+use Rattle.firing.proofs.Starts.{ends-crossed, end-high, start-breaks, upper-end-decides}
 use Rattle.firing.proofs.warm.starts_fit.Statement.{statement}
 use Rattle.firing.proofs.warm.starts_fit.Tie as tie
 
@@ -19,8 +20,9 @@ sign-fits-requires c κs = search needs
 
 returns-3 : tie.Need-returns-3
 returns-3 c =
-    let lower = sym (c .before .sign-fits .ensures) ∙ not-true _ (c .if3 .taken) in
-    lower-end _ _ _ (c .before .before .before .if1 .left) (c .before .before .if2 .left) lower
+    let order = c .before .before .before .if1 .left in
+    let breaks = sym (c .before .sign-fits .ensures) ∙ not-true _ (c .if3 .taken) in
+    start-breaks _ _ _ order (c .before .before .if2 .left) _ (omega arith) order breaks
 
 cast-sign-fits-2 : tie.Need-cast-sign-fits-2
 cast-sign-fits-2 c = search needs
@@ -33,7 +35,7 @@ returns-4 c =
     let order = c .before .before .before .before .if1 .left in
     let low = c .before .before .before .if2 .left in
     let lower = sym (c .before .before .sign-fits .ensures) ∙ not-false _ (c .before .if3 .left) in
-    c .sign-fits2 .ensures ∙ upper-end _ _ _ order low lower
+    c .sign-fits2 .ensures ∙ upper-end-decides _ _ _ order low lower
 
 pub starts-fit-spec : {M : Type 1} → statement M
 starts-fit-spec =
