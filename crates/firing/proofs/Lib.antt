@@ -1,4 +1,4 @@
--- signed numbers, and laws of entries, segments and firings
+-- signed numbers, and laws of entries, segments, firings and their starts
 pub mod Signed
 pub mod Entries
 pub mod Segments

@@ -28,6 +28,17 @@ module _ (entry : List ℕ) where
   abbrev total-from : ℕ → ℕ
   total-from t = total t (segments entry)
 
+  -- The segment whose sign is judged is the first one of the schedule.
+  pub first-segment : laidOut entry ≡ true → segments entry ≡ first ∷ later
+  unfolding segments segmentsIn
+  first-segment e = split (segmentCount entry) refl (layout entry e .some)
+    where
+      split : (n : ℕ) → n ≡ segmentCount entry → 1 ≤ n → segmentsIn n (drop 2 entry) ≡ first ∷ later
+      split zero e h = absurd (omega arith)
+      split (suc n) e h =
+          let less : n ≡ segmentCount entry - 1 = omega arith in
+          ap (λ (k : ℕ). first ∷ segmentsIn k (drop 6 (drop 2 entry))) less
+
   -- a schedule that keeps the rules from 20: its first segment and those after it
   record Begins : Type 0 where
     split : segments entry ≡ first ∷ later
@@ -35,13 +46,11 @@ module _ (entry : List ℕ) where
     later-most : total (first .target) later ≤ 85799 * 15
 
   begins : scheduleFits entry ≡ true → Begins
-  unfolding scheduleFits segments segmentsIn segmentsFit
+  unfolding scheduleFits segmentsFit
   begins e =
       let both = and-eq-true-iff (laidOut entry) _ .0 e in
-      let laid = layout entry (both .0) in
-      let some = laid .some in
-      let few = laid .few in
-      let is = split (segmentCount entry) refl some in
+      let is = first-segment (both .0) in
+      let few = layout entry (both .0) .few in
       let fit = and-eq-true-iff (segmentFits start first) _ .0 (subst (λ xs. segmentsFit start xs ≡ true) is (both .1)) in
       let keeps = keeps-rules start first (fit .0) in
       let most = total-most (first .target) later (keeps .warm) (keeps .low) (fit .1) in
@@ -51,12 +60,6 @@ module _ (entry : List ℕ) where
         keeps = keeps;
         later-most = omega arith;
       }
-    where
-      split : (n : ℕ) → n ≡ segmentCount entry → 1 ≤ n → segmentsIn n (drop 2 entry) ≡ first ∷ later
-      split zero e h = absurd (omega arith)
-      split (suc n) e h =
-          let less : n ≡ segmentCount entry - 1 = omega arith in
-          ap (λ (k : ℕ). first ∷ segmentsIn k (drop 6 (drop 2 entry))) less
 
   -- An entry that its report from 20 refuses is refused with the same code, whatever the range.
   pub warm-entry-refused : (a b : ℕ) → (reportCode entry ≡ 0 → ⊥) → warmReported entry a b ≡ warmUnreported (reportCode entry)
