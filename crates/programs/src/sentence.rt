@@ -1,4 +1,4 @@
-// What a code says, in the words of document 01's table; 26 is document 02's.
+// What a code says, in the words of document 01's table; 26 and 32 are document 02's.
 use crate::print;
 
 // The sentence of a refusal, and of the server's where the code is 11. Nothing for 0.
@@ -49,7 +49,7 @@ fn of_answers(code: u8) {
     }
 }
 
-// Codes 17 to 24, for what the user has or was asked to do, with 23 for a Read, and 26, for a schedule.
+// Codes 17 to 24, for what the user has or was asked to do, with 23 for a Read, 26 for a schedule, and 32 for a warm kiln's starts.
 fn of_start(code: u8) {
     match code {
         17 => print::text(b"all 1024 signature numbers are used"),
@@ -63,6 +63,9 @@ fn of_start(code: u8) {
         23 => print::text(b"what was read does not give this user's own digest"),
         24 => print::text(b"the position is not in this user's version"),
         26 => print::text(b"the schedule breaks its rules, or the entry is no schedule"),
+        32 => print::text(
+            b"the range of starts is crossed or has an end out of range, or the first rate breaks the sign rule for a start in it",
+        ),
         _ => print::text(b"a code that no user has"),
     }
 }
