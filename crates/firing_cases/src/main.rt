@@ -1,9 +1,11 @@
 // Document 02's cases of firing schedules: each range's ends and what lies past them, each way in which a rate has the wrong sign, totals,
-// peaks and lengths. Each line of data/cases.txt is one entry, and data/README.md says what its numbers mean. Its name is printed, and the
-// code, the minutes and the peak that are reported.
+// peaks and lengths; and of a kiln still warm, with its range of starts. Each line of data/cases.txt is one entry, and data/README.md says
+// what its numbers mean. Its name is printed, and the code, the minutes and the peak that are reported, or of a warm kiln the code, the
+// least and the greatest minutes.
 mod entry;
 
 use firing::schedule;
+use firing::warm;
 use programs::file;
 use programs::print;
 use sha256::bytes;
@@ -25,7 +27,7 @@ fn rows(text: &[u8]) {
     }
 }
 
-// Prints a line's name and, where numbers follow it, what is reported of the entry that they make.
+// Prints a line's name and, where a case follows it, what is reported.
 fn row(text: &[u8]) {
     let n = lines::find(text, b':');
     print::text(bytes::front(text, n));
@@ -35,11 +37,29 @@ fn row(text: &[u8]) {
     print::text(b"\n");
 }
 
+// What is reported of the entry that numbers make. After the word warm, the first two are the ends of a range of starts.
 fn report(numbers: &[u8]) {
     let mut space = [0u8; 1025];
-    let n = entry::make(numbers, &mut space);
-    let f = schedule::report(bytes::front(&space, n));
-    print::number(b": code ", f.code as usize);
-    print::number(b", minutes ", f.minutes as usize);
-    print::number(b", peak ", f.peak as usize);
+    if bytes::byte_at(numbers, 0) == b'w' {
+        let from = entry::after(numbers);
+        let to = entry::after(from);
+        let n = entry::make(entry::after(to), &mut space);
+        let t = warm::report(
+            bytes::front(&space, n),
+            entry::number(from),
+            entry::number(to),
+        );
+        print_reported(t.code, b", least ", t.least, b", greatest ", t.greatest);
+    } else {
+        let n = entry::make(numbers, &mut space);
+        let f = schedule::report(bytes::front(&space, n));
+        print_reported(f.code, b", minutes ", f.minutes, b", peak ", f.peak);
+    }
+}
+
+// The code, and the two numbers that come with it, each after what it is.
+fn print_reported(code: u32, what: &[u8], first: u32, other: &[u8], second: u32) {
+    print::number(b": code ", code as usize);
+    print::number(what, first as usize);
+    print::number(other, second as usize);
 }

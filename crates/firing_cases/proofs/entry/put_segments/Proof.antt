@@ -21,6 +21,9 @@ from-requires c κs = search needs
 number-requires : tie.Need-number-requires Inv-loop μ-loop
 number-requires c κs = search needs
 
+cast-be2 : tie.Need-cast-be2 Inv-loop μ-loop
+cast-be2 c = search needs
+
 be2-requires : tie.Need-be2-requires Inv-loop μ-loop
 be2-requires c κs = search needs
 
@@ -69,6 +72,7 @@ put-segments-spec =
     loop-holds
     from-requires
     number-requires
+    cast-be2
     be2-requires
     mul-put
     add-put
