@@ -32,6 +32,7 @@ fn row(text: &[u8]) {
     let n = lines::find(text, b':');
     print::text(bytes::front(text, n));
     if n < text.len() {
+        print::text(b": ");
         report(bytes::from(bytes::from(text, n), 2));
     }
     print::text(b"\n");
@@ -49,17 +50,10 @@ fn report(numbers: &[u8]) {
             entry::number(from),
             entry::number(to),
         );
-        print_reported(t.code, b", least ", t.least, b", greatest ", t.greatest);
+        print::reported(t.code, b", least ", t.least, b", greatest ", t.greatest);
     } else {
         let n = entry::make(numbers, &mut space);
         let f = schedule::report(bytes::front(&space, n));
-        print_reported(f.code, b", minutes ", f.minutes, b", peak ", f.peak);
+        print::reported(f.code, b", minutes ", f.minutes, b", peak ", f.peak);
     }
-}
-
-// The code, and the two numbers that come with it, each after what it is.
-fn print_reported(code: u32, what: &[u8], first: u32, other: &[u8], second: u32) {
-    print::number(b": code ", code as usize);
-    print::number(what, first as usize);
-    print::number(other, second as usize);
 }

@@ -12,6 +12,13 @@ pub fn number(what: &[u8], n: usize) {
     io::print_decimal(STDOUT_FILENO, n as u64);
 }
 
+// A report's code and the two numbers that come with it, each after what it is.
+pub fn reported(code: u32, what: &[u8], first: u32, other: &[u8], second: u32) {
+    number(b"code ", code as usize);
+    number(what, first as usize);
+    number(other, second as usize);
+}
+
 // The first 8 bytes of a digest, after what it is.
 pub fn figures(what: &[u8], d: [u8; 32]) {
     text(what);

@@ -1,4 +1,4 @@
-// A line of a studio script: a word, one or two numbers, and a text or the segments of a schedule, which take the rest of the line.
+// A line of a studio script: a word, one, two or four numbers, and a text or the segments of a schedule, which take the rest of the line.
 pub mod segments;
 
 use lines::Digits;
@@ -17,6 +17,7 @@ pub enum Word {
     Fork,
     Fire,
     Report,
+    Warm,
     Unknown,
 }
 
@@ -27,6 +28,8 @@ pub enum Fault {
     UnknownWord,
     FirstNumber,
     SecondNumber,
+    ThirdNumber,
+    FourthNumber,
     TextLength,
     Rate,
     Target,
@@ -39,8 +42,18 @@ pub struct Command {
     pub word: Word,
     pub first: u32,
     pub second: u32,
+    pub third: u32,
+    pub fourth: u32,
     pub text: usize,
     pub fault: Fault,
+}
+
+// The numbers after the word of a line, whether its command takes them or not.
+struct Numbers {
+    first: Digits,
+    second: Digits,
+    third: Digits,
+    fourth: Digits,
 }
 
 // Whether a line says nothing: it is empty or a comment.
@@ -56,22 +69,43 @@ pub fn is_idle(line: &[u8]) -> bool {
 pub fn parse(line: &[u8], servers: u8) -> Command {
     let size = lines::find(line, b' ');
     let word = word_of(bytes::front(line, size));
-    let first = number(line, size);
-    let second = number(line, first.next);
-    let mut next = first.next;
-    if takes_second(word) {
-        next = second.next;
-    }
-    let text = lines::skip_blanks(line, next);
-    let left = bytes::from(line, text);
-    let fault = fault_of(word, servers, first, second, left);
+    let n = numbers_at(line, size);
+    let text = lines::skip_blanks(line, end(word, n));
+    let fault = fault_of(word, servers, n, bytes::from(line, text));
     Command {
         word,
-        first: first.value,
-        second: second.value,
+        first: n.first.value,
+        second: n.second.value,
+        third: n.third.value,
+        fourth: n.fourth.value,
         text,
         fault,
     }
+}
+
+// The four numbers from a place on, blanks before each.
+fn numbers_at(line: &[u8], at: usize) -> Numbers {
+    let first = number(line, at);
+    let second = number(line, first.next);
+    let third = number(line, second.next);
+    let fourth = number(line, third.next);
+    Numbers {
+        first,
+        second,
+        third,
+        fourth,
+    }
+}
+
+// Where the numbers end that a word takes.
+fn end(word: Word, n: Numbers) -> usize {
+    if takes_range(word) {
+        return n.fourth.next;
+    }
+    if takes_second(word) {
+        return n.second.next;
+    }
+    n.first.next
 }
 
 fn word_of(s: &[u8]) -> Word {
@@ -105,11 +139,19 @@ fn word_of(s: &[u8]) -> Word {
     if bytes::same(s, b"fork") {
         return Word::Fork;
     }
+    kiln_word_of(s)
+}
+
+// The words for schedules.
+fn kiln_word_of(s: &[u8]) -> Word {
     if bytes::same(s, b"fire") {
         return Word::Fire;
     }
     if bytes::same(s, b"report") {
         return Word::Report;
+    }
+    if bytes::same(s, b"warm") {
+        return Word::Warm;
     }
     Word::Unknown
 }
@@ -137,16 +179,24 @@ fn number_at(line: &[u8], at: usize) -> Digits {
 }
 
 // What is wrong with a line, whose numbers are followed by what is left of it.
-fn fault_of(word: Word, servers: u8, first: Digits, second: Digits, left: &[u8]) -> Fault {
+fn fault_of(word: Word, servers: u8, n: Numbers, left: &[u8]) -> Fault {
     if is_unknown(word) {
         return Fault::UnknownWord;
     }
-    if !is_within(first, first_least(word), first_most(word, servers)) {
+    if !is_within(n.first, first_least(word), first_most(word, servers)) {
         return Fault::FirstNumber;
     }
     if takes_second(word) {
-        if !is_within(second, second_least(word), second_most(word)) {
+        if !is_within(n.second, second_least(word), second_most(word)) {
             return Fault::SecondNumber;
+        }
+    }
+    if takes_range(word) {
+        if !is_within(n.third, 0, 65535) {
+            return Fault::ThirdNumber;
+        }
+        if !is_within(n.fourth, 0, 65535) {
+            return Fault::FourthNumber;
         }
     }
     if takes_text(word) {
@@ -212,6 +262,7 @@ fn takes_second(word: Word) -> bool {
         Word::Settled => true,
         Word::Cut => true,
         Word::Report => true,
+        Word::Warm => true,
         _ => false,
     }
 }
@@ -228,6 +279,14 @@ pub fn second_most(word: Word) -> u32 {
     match word {
         Word::Cut => 98,
         _ => 1048576,
+    }
+}
+
+// Whether the third and the fourth number are the ends of a range of starts.
+fn takes_range(word: Word) -> bool {
+    match word {
+        Word::Warm => true,
+        _ => false,
     }
 }
 

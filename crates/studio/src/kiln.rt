@@ -5,8 +5,11 @@ use exchange::user_place;
 use firing::schedule;
 use firing::segment;
 use firing::segment::Segment;
+use firing::warm;
 use programs::print;
 use programs::sentence;
+use script::Command;
+use script::Word;
 use script::segments;
 use script::segments::Listed;
 use sha256::bytes;
@@ -61,23 +64,42 @@ pub fn summary(entry: &[u8]) {
     print::number(b", peak ", f.peak as usize);
 }
 
-// The report on the entry that a Read found, where it did not end with a refusal; with code 0 the segments and the curve too.
-pub fn report(position: u32, place: &[u8]) {
+// What a command asks of the entry that a Read found, where it did not end with a refusal: the report from 20, or from a warm kiln.
+pub fn report(c: Command, place: &[u8]) {
     if bytes::byte_at(place, user_place::CODE) != 0 {
         return;
     }
+    report::found(c.second, place);
     let entry = user_place::entry_of(place);
+    let word = c.word;
+    match word {
+        Word::Warm => print_totals(entry, c.third, c.fourth),
+        _ => print_firing(entry),
+    }
+}
+
+// The report from 20; with code 0 the segments and the curve too.
+fn print_firing(entry: &[u8]) {
     let f = schedule::report(entry);
-    report::found(position, place);
-    print::number(b"code ", f.code as usize);
-    print::number(b", minutes ", f.minutes as usize);
-    print::number(b", peak ", f.peak as usize);
-    print::text(b"\n");
-    sentence::refusal((f.code % 256) as u8, 0);
+    print::reported(f.code, b", minutes ", f.minutes, b", peak ", f.peak);
+    end_report(f.code);
     if f.code == 0 {
         print_segments(entry);
         curve::draw(entry, f);
     }
+}
+
+// The least and the greatest minutes from the starts in a range.
+fn print_totals(entry: &[u8], from: u32, to: u32) {
+    let t = warm::report(entry, from, to);
+    print::reported(t.code, b", least ", t.least, b", greatest ", t.greatest);
+    end_report(t.code);
+}
+
+// The end of a report's line, and what a refusal says.
+fn end_report(code: u32) {
+    print::text(b"\n");
+    sentence::refusal((code % 256) as u8, 0);
 }
 
 // A line for each segment.

@@ -39,6 +39,8 @@ pub fn fault(at: usize, c: Command, servers: u8) -> bool {
             script::second_least(word),
             script::second_most(word),
         ),
+        Fault::ThirdNumber => said(at, b"the third number is missing or not in 0 .. 65535"),
+        Fault::FourthNumber => said(at, b"the fourth number is missing or not in 0 .. 65535"),
         Fault::TextLength => said(at, b"the text is missing or longer than 1023 bytes"),
         Fault::Rate => said(at, b"a rate is missing or not in -32768 .. 32767"),
         Fault::Target => said(at, b"a target is missing or not in 0 .. 65535"),

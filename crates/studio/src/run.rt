@@ -51,6 +51,7 @@ fn act(c: Command, line: &[u8], g: Group, world: &mut [u8], keys: &[u8]) {
         Word::Update => update(g, own, world, keys),
         Word::Read => read(c, g, world, keys),
         Word::Report => read(c, g, world, keys),
+        Word::Warm => read(c, g, world, keys),
         Word::Board => board::show(g, own, world, keys),
         Word::Settled => settled(g, own, c.second, world, keys),
         Word::Strike => strike(g, own, c.second, world, keys),
@@ -66,7 +67,7 @@ fn update(g: Group, own: u8, world: &mut [u8], keys: &[u8]) {
     fork::after(g, own, open_before, world, keys);
 }
 
-// Reads a position, and prints the entry there or the report on its firing.
+// Reads a position, and prints the entry there or what is reported of its firing.
 fn read(c: Command, g: Group, world: &mut [u8], keys: &[u8]) {
     let own = (c.first % 256) as u8;
     let word = c.word;
@@ -74,7 +75,8 @@ fn read(c: Command, g: Group, world: &mut [u8], keys: &[u8]) {
     let place = world::user(own, world);
     report::call(place, answers);
     match word {
-        Word::Report => kiln::report(c.second, place),
+        Word::Report => kiln::report(c, place),
+        Word::Warm => kiln::report(c, place),
         _ => report::entry(c.second, place),
     }
     fork::notice(g, own, c.second, world::some_open(world), world);
