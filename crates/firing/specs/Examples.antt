@@ -61,9 +61,9 @@ written-entries : (rulesKept (1 ∷ 65 ∷ []) ≡ true) × (rulesKept (3 ∷ 0 
 unfolding rulesKept scheduleFits laidOut segmentCount isSchedule
 written-entries = (refl, refl)
 
--- A kiln still warm. The first firing from 0 to 40 °C: 570 minutes at most to 950, 546 at least, and 160 more; the longest from 0 alone, which
--- no total is above; to 22 °C at 7 °C an hour from 20 and from 21; rate 0 from 20 alone. 32: a start at the first target; rate 0 from 19 on,
--- and up to 21; ends that are crossed; ends above 1,350. 26 and 19 come before it.
+-- A kiln still warm. The first firing from 0 to 40 °C: 570 minutes at most to 950, 546 at least, and 160 more; the longest from 0 alone,
+-- which no total is above; to 22 °C at 7 °C an hour from 20 and from 21; rate 0 from 20 alone. 32: a start at the first target; rate 0 from
+-- 19 on, and up to 21; ends that are crossed; ends above 1,350. 26 and 19 come before it.
 warm-reports : (warmReported bisque 0 40 ≡ record { code = 0; least = 706; greatest = 730 })
     × (warmReported (3 ∷ 16 ∷ upAndDown 8) 0 0 ≡ record { code = 0; least = 1373984; greatest = 1373984 })
     × (warmReported (3 ∷ 1 ∷ 0 ∷ 7 ∷ 0 ∷ 22 ∷ 0 ∷ 0 ∷ []) 20 21 ≡ record { code = 0; least = 9; greatest = 18 })

@@ -26,8 +26,8 @@ fn refused(code: u32) -> Totals
     }
 }
 
-// Whether a range of starts is in order and within 0 to 1,350, and the first rate has the sign that it must have from every start in it:
-// then it has it from both ends, and what has it from both ends lies on one side of the target with all that is between them.
+// Whether a range of starts is in order and within 0 to 1,350, and the first rate has the right sign from every start in it. It is right
+// from all if it is from both ends: all starts between them are then on the same side of the target, or at it.
 fn starts_fit(first: Segment, from: u32, to: u32) -> bool
     ensures { λ r. ⌜ r ≡ startsFit first from to ⌝ }
 {
