@@ -18,7 +18,8 @@ use Rattle.firing.specs.declared.segment.Segment.{Segment}
 use Rattle.firing.specs.declared.schedule.Firing.{Firing}
 use Rattle.firing.specs.Entry.{strikes, isSchedule, entryFits, targetOf}
 use Rattle.firing.specs.Schedule.{twosComplement, segmentsIn, segmentCount, segments, laidOut, change, sameSign, signFits}
-use Rattle.firing.specs.Schedule.{segmentFits, segmentsFit, roundedUp, segmentMinutes, total, peak, start, scheduleFits, reportCode, unreported, reported}
+use Rattle.firing.specs.Schedule.{segmentFits, segmentsFit, roundedUp, segmentMinutes, total, peak, start, scheduleFits, reportCode}
+use Rattle.firing.specs.Schedule.{unreported, reported}
 use Rattle.firing.specs.Temperatures.{reached}
 use Rattle.firing.proofs.Signed.{pos-minus, low-half, lowered}
 use Rattle.firing.proofs.Segments.{keeps-rules, rounded-enough, rounded-least, segment-most}
