@@ -3,11 +3,13 @@
 
 use crate::lms::Signer;
 use crate::plain_server::HEAD;
+use crate::schedule::warm::Totals;
 use crate::schedule::Firing;
 use crate::server::{Served, Settings};
 use crate::user::{Asked, Lent, SettledAnswer, Signing, KEPT};
 
 mod raw {
+    use crate::schedule::warm::Totals;
     use crate::schedule::Firing;
     use crate::server::Served;
     use crate::user::{Asked, SettledAnswer};
@@ -50,6 +52,7 @@ mod raw {
         pub fn kozbrax_digest(leaves: *const u8, leaves_len: usize, out: *mut u8, out_len: usize) -> u32;
         pub fn kozbrax_board(targets: *const u32, targets_len: usize, standing: *mut u32, standing_len: usize) -> u32;
         pub fn kozbrax_schedule(entry: *const u8, entry_len: usize) -> Firing;
+        pub fn kozbrax_schedule_warm(entry: *const u8, entry_len: usize, from: u32, to: u32) -> Totals;
         pub fn kozbrax_server(
             servers: u32,
             own: u32,
@@ -235,6 +238,12 @@ pub fn board(targets: &[u32], standing: &mut [u32]) -> u32 {
 pub fn schedule(entry: &[u8]) -> Firing {
     // SAFETY: as for `lms_check`.
     unsafe { raw::kozbrax_schedule(entry.as_ptr(), entry.len()) }
+}
+
+/// The code, and where it is 0 the least and the greatest total time in minutes from the whole starts in the range.
+pub fn schedule_warm(entry: &[u8], from: u32, to: u32) -> Totals {
+    // SAFETY: as for `lms_check`.
+    unsafe { raw::kozbrax_schedule_warm(entry.as_ptr(), entry.len(), from, to) }
 }
 
 /// The code, the length of the answer in its buffer, and the store's new used length. 22 and 21 write nothing.

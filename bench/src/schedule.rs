@@ -2,12 +2,13 @@
 pub mod plain;
 pub mod sweeps;
 mod tally;
+pub mod warm;
 
 use crate::sample::Random;
 use crate::timing::{Clock, Race};
 use crate::{library, stack};
 use std::hint::black_box;
-use tally::Tally;
+use tally::{Tally, Trial};
 
 const ROUNDS: usize = 100;
 
@@ -27,32 +28,16 @@ pub struct Firing {
 }
 
 type Report = fn(&[u8]) -> Firing;
-type Sweep = fn(&mut Tally);
 
 const LIBRARY: Report = library::schedule;
 const PLAIN: Report = plain::report;
 
-const SWEEPS: [(&str, Sweep); 8] = [
-    ("schedules that keep the rules", sweeps::valid_schedules),
-    ("all differences at all rates", sweeps::roundings),
-    ("all rates, targets and holds", sweeps::whole_fields),
-    ("the fields' ends", sweeps::ends),
-    ("signs", sweeps::signs),
-    ("counts", sweeps::counts),
-    ("damaged schedules", sweeps::damaged),
-    ("random bytes", sweeps::random_bytes),
-];
-
 pub fn run(seed: u64) {
     println!("code, minutes and peak, the same from the library and from plain Rust, seed {seed}:");
     let mut tally = Tally::new(seed);
-    for (name, sweep) in SWEEPS {
-        let before = tally.calls();
-        sweep(&mut tally);
-        println!("  {name:>29}  {:>9} calls", tally.calls() - before);
-    }
-    println!("{} calls in all, no difference, by code:", tally.calls());
-    tally.demand([0, plain::MISSHAPEN, plain::AGAINST_RULES], OFTEN);
+    sweep(&mut tally, &sweeps::all());
+    println!("{} calls in all, no difference, by code:", tally.codes().calls());
+    tally.codes().demand(&[0, plain::MISSHAPEN, plain::AGAINST_RULES], OFTEN);
     println!("nanoseconds of processor time for a call, best and median of {ROUNDS} rounds:");
     let random = &mut Random::new(seed);
     for (segments, count) in [1, 16].iter().flat_map(|segments| IN_TURN.map(|count| (*segments, count))) {
@@ -61,6 +46,16 @@ pub fn run(seed: u64) {
     println!("stack of a call, in bytes, its return address included:");
     for segments in [1, 16] {
         print_stack(&sweeps::valid_entry(random, segments), segments);
+    }
+    warm::run(seed);
+}
+
+/// Takes all sweeps, and prints how many calls each of them was.
+fn sweep<T: Trial>(tally: &mut T, sweeps: &[(&str, fn(&mut T))]) {
+    for (name, sweep) in sweeps {
+        let before = tally.codes().calls();
+        sweep(tally);
+        println!("  {name:>29}  {:>9} calls", tally.codes().calls() - before);
     }
 }
 
@@ -76,14 +71,19 @@ fn time(random: &mut Random, segments: usize, count: usize) {
     for _ in 0..ROUNDS {
         race.round(|| report_all(black_box(LIBRARY), &schedules), || report_all(black_box(PLAIN), &schedules));
     }
+    print_times(&format!("{segments:>2} segments, {count:>4} schedules in turn"), &race, [count, count]);
+}
+
+/// A line with the nanoseconds for a call of the library and of plain Rust, of which a round's call makes so many.
+fn print_times(name: &str, race: &Race, [of_library, of_plain]: [usize; 2]) {
     let (best, median) = (race.best(), race.medians());
-    let a_call = 1e9 / count as f64;
+    let [library, plain] = [of_library, of_plain].map(|calls| 1e9 / calls as f64);
     println!(
-        "  {segments:>2} segments, {count:>4} schedules in turn  library {:.1}, {:.1}  plain {:.1}, {:.1}",
-        best.0 * a_call,
-        median.0 * a_call,
-        best.1 * a_call,
-        median.1 * a_call
+        "  {name}  library {:.1}, {:.1}  plain {:.1}, {:.1}",
+        best.0 * library,
+        median.0 * library,
+        best.1 * plain,
+        median.1 * plain
     );
 }
 

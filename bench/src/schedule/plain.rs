@@ -28,12 +28,19 @@ pub fn has_shape(entry: &[u8]) -> bool {
 
 /// What is reported of a schedule that keeps the rules.
 fn firing(entry: &[u8]) -> Option<Firing> {
+    firing_from(START, segments(entry)?)
+}
+
+/// The segments of an entry that is laid out as a schedule: 1 to 16, as many as its count says, and nothing behind them.
+pub fn segments(entry: &[u8]) -> Option<&[[u8; SEGMENT]]> {
     let [3, count @ 1..=16, body @ ..] = entry else { return None };
     let (segments, rest) = body.as_chunks::<SEGMENT>();
-    if segments.len() != usize::from(*count) || !rest.is_empty() {
-        return None;
-    }
-    let (mut temperature, mut minutes, mut peak) = (START, 0, 0);
+    (segments.len() == usize::from(*count) && rest.is_empty()).then_some(segments)
+}
+
+/// What is reported of segments that keep the rules in a kiln that starts at a temperature.
+pub fn firing_from(start: i32, segments: &[[u8; SEGMENT]]) -> Option<Firing> {
+    let (mut temperature, mut minutes, mut peak) = (start, 0, 0);
     for &[r, s, t, u, h, i] in segments {
         let rate = i32::from(i16::from_be_bytes([r, s]));
         let target = i32::from(u16::from_be_bytes([t, u]));

@@ -1,14 +1,14 @@
 //! The entries that are tried: schedules that keep the rules, each field through all its values and at and past its ends, each
 //! sign, damaged schedules, and bytes that are none.
 use super::plain::{LONGEST_ENTRY, SEGMENT};
-use super::tally::Tally;
+use super::tally::Trial;
 use crate::sample::Random;
 
-const LOWEST: u16 = 20;
-const HIGHEST: u16 = 1350;
-const FASTEST: i16 = 600;
+pub const LOWEST: u16 = 20;
+pub const HIGHEST: u16 = 1350;
+pub const FASTEST: i16 = 600;
 const LONGEST_HOLD: u16 = 5999;
-const MOST_SEGMENTS: usize = 16;
+pub const MOST_SEGMENTS: usize = 16;
 
 /// Schedules that keep the rules, of each count of segments.
 const OF_EACH_COUNT: usize = 20_000;
@@ -24,14 +24,28 @@ const RATES: [i16; 18] =
 const TARGETS: [u16; 14] = [0, 19, 20, 21, 255, 256, 699, 700, 701, 1349, 1350, 1351, 32_768, u16::MAX];
 const HOLDS: [u16; 10] = [0, 1, 255, 256, 5998, 5999, 6000, 6001, 32_768, u16::MAX];
 
+/// The sweeps, by name, for one who tries each of their entries.
+pub fn all<T: Trial>() -> [(&'static str, fn(&mut T)); 8] {
+    [
+        ("schedules that keep the rules", valid_schedules),
+        ("all differences at all rates", roundings),
+        ("all rates, targets and holds", whole_fields),
+        ("the fields' ends", ends),
+        ("signs", signs),
+        ("counts", counts),
+        ("damaged schedules", damaged),
+        ("random bytes", random_bytes),
+    ]
+}
+
 #[derive(Clone, Copy)]
-struct Segment {
+pub struct Segment {
     rate: i16,
     target: u16,
     hold: u16,
 }
 
-fn segment(rate: i16, target: u16, hold: u16) -> Segment {
+pub fn segment(rate: i16, target: u16, hold: u16) -> Segment {
     Segment { rate, target, hold }
 }
 
@@ -46,12 +60,12 @@ fn entry_with(count: u8, segments: &[Segment]) -> Vec<u8> {
     entry
 }
 
-fn entry(segments: &[Segment]) -> Vec<u8> {
+pub fn entry(segments: &[Segment]) -> Vec<u8> {
     entry_with(segments.len() as u8, segments)
 }
 
 /// Segments that keep the rules: a sixth of them stay at their temperature, a sixth go to an end of the range.
-fn valid(random: &mut Random, count: usize) -> Vec<Segment> {
+pub fn valid(random: &mut Random, count: usize) -> Vec<Segment> {
     let mut before = LOWEST;
     let mut next = || {
         let target = match random.below(6) {
@@ -73,10 +87,10 @@ pub fn valid_entry(random: &mut Random, count: usize) -> Vec<u8> {
     entry(&valid(random, count))
 }
 
-pub fn valid_schedules(tally: &mut Tally) {
+fn valid_schedules(tally: &mut impl Trial) {
     for count in 1..=MOST_SEGMENTS {
         for _ in 0..OF_EACH_COUNT {
-            let entry = valid_entry(&mut tally.random, count);
+            let entry = valid_entry(tally.random(), count);
             tally.accepted(&entry);
         }
     }
@@ -85,7 +99,7 @@ pub fn valid_schedules(tally: &mut Tally) {
 }
 
 /// All differences at all rates, up from 20 and down from 1,350: every way in which the minutes are rounded.
-pub fn roundings(tally: &mut Tally) {
+fn roundings(tally: &mut impl Trial) {
     let top = segment(FASTEST, HIGHEST, 0);
     for rate in 1..=FASTEST {
         for target in LOWEST + 1..=HIGHEST {
@@ -96,7 +110,7 @@ pub fn roundings(tally: &mut Tally) {
 }
 
 /// All rates, all targets and all holds, in a first segment and in a second one that begins at 700.
-pub fn whole_fields(tally: &mut Tally) {
+fn whole_fields(tally: &mut impl Trial) {
     let first = segment(100, 700, 0);
     let mut both = |s: Segment| {
         tally.compare(&entry(&[s]));
@@ -116,10 +130,10 @@ pub fn whole_fields(tally: &mut Tally) {
 }
 
 /// All combinations of the fields' ends, in each place of schedules that else keep the rules.
-pub fn ends(tally: &mut Tally) {
+fn ends(tally: &mut impl Trial) {
     for count in [1, 2, 3, MOST_SEGMENTS] {
         for place in 0..count {
-            let mut segments = valid(&mut tally.random, count);
+            let mut segments = valid(tally.random(), count);
             for (rate, target) in RATES.iter().flat_map(|rate| TARGETS.map(|target| (*rate, target))) {
                 for hold in HOLDS {
                     segments[place] = segment(rate, target, hold);
@@ -131,7 +145,7 @@ pub fn ends(tally: &mut Tally) {
 }
 
 /// Each sign beside each way that a target may lie to the one before it and to 20, and the same with one more segment before.
-pub fn signs(tally: &mut Tally) {
+fn signs(tally: &mut impl Trial) {
     let temperatures = [20, 21, 300, 700, 701, 1349, 1350];
     for (before, target) in temperatures.iter().flat_map(|before| temperatures.map(|target| (*before, target))) {
         let sign = i16::from(before > LOWEST);
@@ -144,23 +158,23 @@ pub fn signs(tally: &mut Tally) {
 }
 
 /// Counts beside every number of segments.
-pub fn counts(tally: &mut Tally) {
+fn counts(tally: &mut impl Trial) {
     for segments in 0..=MOST_SEGMENTS + 2 {
-        let segments = valid(&mut tally.random, segments);
+        let segments = valid(tally.random(), segments);
         for count in 0..=u8::MAX {
             tally.compare(&entry_with(count, &segments));
         }
     }
     for count in MOST_SEGMENTS + 1..=(LONGEST_ENTRY - 2) / SEGMENT + 1 {
-        let entry = valid_entry(&mut tally.random, count);
+        let entry = valid_entry(tally.random(), count);
         tally.compare(&entry);
     }
 }
 
 /// Schedules with each byte changed to each other value, cut to each length, and with bytes more.
-pub fn damaged(tally: &mut Tally) {
+fn damaged(tally: &mut impl Trial) {
     for count in (1..=MOST_SEGMENTS).flat_map(|count| [count; DAMAGED]) {
-        let whole = valid_entry(&mut tally.random, count);
+        let whole = valid_entry(tally.random(), count);
         for (place, value) in (0..whole.len()).flat_map(|place| (0..=u8::MAX).map(move |value| (place, value))) {
             let mut entry = whole.clone();
             entry[place] = value;
@@ -168,17 +182,17 @@ pub fn damaged(tally: &mut Tally) {
         }
         (0..whole.len()).for_each(|length| tally.compare(&whole[..length]));
         for more in (1..=BYTES_MORE).chain([LONGEST_ENTRY - whole.len(), LONGEST_ENTRY + 1 - whole.len()]) {
-            let entry = [&whole[..], &tally.random.bytes(more)].concat();
+            let entry = [&whole[..], &tally.random().bytes(more)].concat();
             tally.compare(&entry);
         }
     }
 }
 
 /// Random bytes of every length behind each of the first bytes 0 to 4 and 255, with any count and with the one that fits.
-pub fn random_bytes(tally: &mut Tally) {
+fn random_bytes(tally: &mut impl Trial) {
     for length in 0..=LONGEST_RANDOM {
         for first in [0, 1, 2, 3, 4, 255] {
-            let mut entry = tally.random.bytes(length);
+            let mut entry = tally.random().bytes(length);
             entry.iter_mut().take(1).for_each(|byte| *byte = first);
             tally.compare(&entry);
             entry.iter_mut().skip(1).take(1).for_each(|byte| *byte = (length.saturating_sub(2) / SEGMENT) as u8);

@@ -3,28 +3,52 @@ use super::{Firing, LIBRARY, PLAIN};
 use crate::sample::Random;
 use std::collections::BTreeMap;
 
+/// One who tries the entries that the sweeps make.
+pub trait Trial {
+    fn random(&mut self) -> &mut Random;
+
+    fn codes(&self) -> &Codes;
+
+    /// Both sides have to report the same.
+    fn compare(&mut self, entry: &[u8]);
+
+    /// As `compare`, of a schedule that keeps the rules.
+    fn accepted(&mut self, entry: &[u8]);
+}
+
+/// How many calls gave each code.
+#[derive(Default)]
+pub struct Codes(BTreeMap<u32, u64>);
+
+impl Codes {
+    pub fn count(&mut self, code: u32) {
+        *self.0.entry(code).or_default() += 1;
+    }
+
+    pub fn calls(&self) -> u64 {
+        self.0.values().sum()
+    }
+
+    /// Prints how often each code came up. Each of those asked for has to, this often, and no other.
+    pub fn demand(&self, codes: &[u32], often: u64) {
+        for (code, calls) in &self.0 {
+            println!("  code {code:>2}  {calls:>9} calls");
+        }
+        assert!(self.0.keys().all(|code| codes.contains(code)), "a code that no report has");
+        for code in codes {
+            assert!(self.0.get(code).is_some_and(|calls| *calls >= often), "code {code} came up too seldom");
+        }
+    }
+}
+
 pub struct Tally {
-    pub random: Random,
-    /// How many calls gave each code.
-    codes: BTreeMap<u32, u64>,
+    random: Random,
+    codes: Codes,
 }
 
 impl Tally {
     pub fn new(seed: u64) -> Tally {
-        Tally { random: Random::new(seed), codes: BTreeMap::new() }
-    }
-
-    /// Both sides have to report the same. The run ends at the first entry of which they do not.
-    pub fn compare(&mut self, entry: &[u8]) {
-        self.reported(entry);
-    }
-
-    /// As `compare`, and the code has to be 0.
-    pub fn accepted(&mut self, entry: &[u8]) {
-        let firing = self.reported(entry);
-        if firing.code != 0 {
-            fail(entry, &format!("it keeps the rules, and both sides gave {firing:?}"));
-        }
+        Tally { random: Random::new(seed), codes: Codes::default() }
     }
 
     fn reported(&mut self, entry: &[u8]) -> Firing {
@@ -32,28 +56,39 @@ impl Tally {
         if library != plain {
             fail(entry, &format!("the library gave {library:?}, plain Rust {plain:?}"));
         }
-        *self.codes.entry(library.code).or_default() += 1;
+        self.codes.count(library.code);
         library
     }
+}
 
-    pub fn calls(&self) -> u64 {
-        self.codes.values().sum()
+/// The run ends at the first entry of which the sides do not report the same, or not 0 where it keeps the rules.
+impl Trial for Tally {
+    fn random(&mut self) -> &mut Random {
+        &mut self.random
     }
 
-    /// Prints how often each code came up. Each of those asked for has to, this often, and no other.
-    pub fn demand(&self, codes: [u32; 3], often: u64) {
-        for (code, calls) in &self.codes {
-            println!("  code {code:>2}  {calls:>9} calls");
-        }
-        assert!(self.codes.keys().all(|code| codes.contains(code)), "a code that no report has");
-        for code in codes {
-            assert!(self.codes.get(&code).is_some_and(|calls| *calls >= often), "code {code} came up too seldom");
+    fn codes(&self) -> &Codes {
+        &self.codes
+    }
+
+    fn compare(&mut self, entry: &[u8]) {
+        self.reported(entry);
+    }
+
+    fn accepted(&mut self, entry: &[u8]) {
+        let firing = self.reported(entry);
+        if firing.code != 0 {
+            fail(entry, &format!("it keeps the rules, and both sides gave {firing:?}"));
         }
     }
 }
 
 fn fail(entry: &[u8], what: &str) -> ! {
-    let figures: String = entry.iter().map(|byte| format!("{byte:02x}")).collect();
-    println!("schedule {figures}: {what}");
+    println!("schedule {}: {what}", figures(entry));
     std::process::exit(1);
+}
+
+/// An entry in hexadecimal.
+pub fn figures(entry: &[u8]) -> String {
+    entry.iter().map(|byte| format!("{byte:02x}")).collect()
 }
