@@ -5,7 +5,7 @@ use crate::schedule::plain::LONGEST_ENTRY;
 use crate::schedule::sweeps::{entry, segment, valid, valid_entry, FASTEST, HIGHEST, LOWEST, MOST_SEGMENTS};
 use crate::schedule::tally::Trial;
 
-/// Of each count of segments, how many schedules that keep the rules are tried with all pairs of edges, and how many damaged ones.
+/// How many schedules of each count of segments are tried with all pairs of edges: such as keep the rules, and damaged ones.
 const OF_EACH_COUNT: usize = 200;
 const DAMAGED: usize = 100;
 
