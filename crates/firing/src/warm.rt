@@ -1,6 +1,5 @@
 // A kiln that is still warm (document 02, i): the least and the greatest total time of a firing whose start lies in a range.
 ghost use mathlib.Core.Path.{_≡_};
-ghost use Prim.Native.Nat.{_+_, _*_};
 ghost use Rattle.firing.specs.Warm.{startsFit, warmUnreported, warmReported};
 use super::schedule;
 use super::segment;
