@@ -18,7 +18,8 @@ use Rattle.user.specs.declared.call.Kept.{Kept}
 use Rattle.user.specs.Asking.{requestRoom, refused}
 use Rattle.user.proofs.Passed.{setup-passed, by-cond}
 use Rattle.firing.specs.Entry.{strikes, isSchedule, entryFits}
-use Rattle.firing.specs.Schedule.{twosComplement, segmentOf, segmentsIn, segmentCount, segments, laidOut, change, sameSign, segmentFits, segmentsFit, scheduleFits, rulesKept}
+use Rattle.firing.specs.Schedule.{twosComplement, segmentOf, segmentsIn, segmentCount, segments, laidOut, change, sameSign, signFits}
+use Rattle.firing.specs.Schedule.{segmentFits, segmentsFit, scheduleFits, rulesKept}
 use Rattle.user_write.specs.Write.{targetFits, commitNumber, writeLevel, writeAnswers}
 use Rattle.tree.proofs.Cases.{not-both}
 use Rattle.whole_run.specs.World.{Lent, User, Input, startUpdate, startWrite}
@@ -89,7 +90,7 @@ new =
     }
 
 valid : ValidCall small start 1 first
-unfolding Alone ValidInput runOf atFirst newUser entryFits strikes isSchedule rulesKept scheduleFits laidOut segments segmentsIn segmentCount segmentOf segmentsFit segmentFits change sameSign twosComplement numberAt
+unfolding Alone ValidInput runOf atFirst newUser entryFits strikes isSchedule rulesKept scheduleFits laidOut segments segmentsIn segmentCount segmentOf segmentsFit segmentFits signFits change sameSign twosComplement numberAt
 valid =
     record {
       one = omega arith;
