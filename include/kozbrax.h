@@ -106,6 +106,27 @@ typedef struct {
    equal; else 0. Writes nothing. */
 kozbrax_totals kozbrax_schedule_warm(const uint8_t *entry, size_t entry_len, uint32_t from, uint32_t to);
 
+/* When a firing may begin: the code, and where it is 0 the start; that is 0 where it is not. */
+typedef struct {
+  uint32_t code;
+  uint32_t start;
+} kozbrax_start;
+
+/* The earliest start of a firing of `length` minutes, any number, within opening hours. A week has 10,080 minutes from Monday 0:00. windows
+   has the first minute and the end of each window, one window behind the other, the end not belonging to it; windows_len counts numbers,
+   two for each window. A window may end at 10,080, and two may meet: a firing goes on from the one into the other, and from the week's end
+   into the next week.
+   A start is a number from `minute` to minute + 10,079, counted on past the week's end: 10,080 is Monday 0:00 of the week after. With length
+   0 it is `minute`; with 10,080 or more, `minute` where the windows cover the whole week, and else there is none.
+   Returns the code: 33 where minute is not 0 to 10,079, windows_len not 2 to 64 or odd, or a window is empty, ends after 10,080 or begins
+   before the end of the one before it; else 34 where no start has all its minutes in windows; else 0. Writes nothing. */
+kozbrax_start kozbrax_opening(const uint32_t *windows, size_t windows_len, uint32_t minute, uint32_t length);
+
+/* The same for the firing that an entry of any bytes holds, with its total time from 20 as the length.
+   Returns the code: 19 or 26 where kozbrax_schedule does; else 33 or 34 where kozbrax_opening does; else 0. Writes nothing. */
+kozbrax_start kozbrax_schedule_opening(const uint8_t *entry, size_t entry_len, const uint32_t *windows, size_t windows_len,
+                                       uint32_t minute);
+
 /* What a call of the server gives: its code, the answer's length (0 where none is written), and the store's used length after it. */
 typedef struct {
   uint32_t code;

@@ -1,0 +1,89 @@
+use mathlib.Core.Path.{_≡_, refl, sym, _∙_}
+use mathlib.Core.Bool.{true}
+use Prim.Native.Nat.{_-_, _≤_}
+use native.Mathlib.Omega.{arith}
+use lib.ListN.{length, drop}
+use borrow.Author.Needs.{needs, scaled-fits}
+use Rattle.opening_hours.specs.Opening.{inOrder}
+use Rattle.opening_hours.specs.Inner.{firstClosed}
+use Rattle.opening_hours.proofs.InOrder.{WindowAt, window-at, in-order, run-goes-on, run-ends, run-passed}
+use Rattle.opening_hours.proofs.windows.first_closed.Statement.{statement}
+use Rattle.opening_hours.proofs.windows.first_closed.Tie as tie
+
+abbrev Inv-loop : tie.InvT-loop
+Inv-loop windows closed₀ at₀ closed at = (at ≤ length windows) × ((firstClosed 0 windows ≡ firstClosed closed (drop at windows)) × (inOrder closed (drop at windows) ≡ true))
+
+abbrev μ-loop : tie.MeasureT-loop
+μ-loop windows closed₀ at₀ closed at = length windows - at
+
+loop-holds : tie.Need-loop-holds Inv-loop μ-loop
+loop-holds c = (search needs, (refl, in-order _ (c .pre)))
+
+mul-if1 : tie.Need-mul-if1 Inv-loop μ-loop
+mul-if1 c = search needs
+
+shared-slice-read-if1 : tie.Need-shared-slice-read-if1 Inv-loop μ-loop
+shared-slice-read-if1 c = search needs
+
+returns : tie.Need-returns Inv-loop μ-loop
+returns c =
+    let turn = c .before .before .before in
+    let w = window-at _ _ _ (turn .loop .inv .1 .1) (c .before .before .loop-test .taken) in
+    sym (turn .loop .inv .1 .0 ∙ run-ends _ _ _ (w .pair) (c .if1 .taken))
+
+add-closed : tie.Need-add-closed Inv-loop μ-loop
+add-closed c = search needs
+
+mul-closed : tie.Need-mul-closed Inv-loop μ-loop
+mul-closed c =
+    let turn = c .before .before .before in
+    let w = window-at _ _ _ (turn .loop .inv .1 .1) (c .before .before .loop-test .taken) in
+    scaled-fits _ (length (turn .before .args .windows .now)) 4 (w .pair) (search needs)
+
+shared-slice-read-closed : tie.Need-shared-slice-read-closed Inv-loop μ-loop
+shared-slice-read-closed c =
+    let turn = c .before .before .before .before in
+    let w = window-at _ _ _ (turn .loop .inv .1 .1) (c .before .before .before .loop-test .taken) in
+    w .pair
+
+add-at : tie.Need-add-at Inv-loop μ-loop
+add-at c =
+    let turn = c .before .before .before .before in
+    let w = window-at _ _ _ (turn .loop .inv .1 .1) (c .before .before .before .loop-test .taken) in
+    search needs
+
+loop-less : tie.Need-loop-less Inv-loop μ-loop
+loop-less c =
+    let turn = c .before .before .before .before in
+    let w = window-at _ _ _ (turn .loop .inv .1 .1) (c .before .before .before .loop-test .taken) in
+    search needs
+
+loop-again : tie.Need-loop-again Inv-loop μ-loop
+loop-again c =
+    let turn = c .before .before .before .before in
+    let w = window-at _ _ _ (turn .loop .inv .1 .1) (c .before .before .before .loop-test .taken) in
+    let p = w .pair in
+    (omega arith, (turn .loop .inv .1 .0 ∙ run-goes-on _ _ _ (w .pair) (c .before .if1 .left), w .rest))
+
+returns-2 : tie.Need-returns-2 Inv-loop μ-loop
+returns-2 c =
+    let turn = c .before in
+    sym (turn .loop .inv .1 .0 ∙ run-passed _ _ _ (c .loop-test .left))
+
+pub first-closed-spec : {M : Type 1} → statement M
+first-closed-spec =
+    tie.close
+    (tie.spec
+    Inv-loop
+    μ-loop
+    loop-holds
+    mul-if1
+    shared-slice-read-if1
+    returns
+    add-closed
+    mul-closed
+    shared-slice-read-closed
+    add-at
+    loop-less
+    loop-again
+    returns-2)

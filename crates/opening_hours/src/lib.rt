@@ -1,0 +1,4 @@
+// Opening hours (document 02, j): when a firing may begin.
+pub mod opening;
+pub mod schedule;
+pub mod windows;

@@ -1,0 +1,93 @@
+// The earliest start (document 02, j): from a minute of the week on, that of a firing all of whose minutes lie in windows.
+ghost use mathlib.Core.Path.{_≡_};
+ghost use mathlib.Core.Bool.{true};
+ghost use Prim.Native.Nat.{_-_, _<_};
+ghost use Rattle.opening_hours.specs.Opening.{windowsFit, earliest, noStart, opening};
+ghost use Rattle.opening_hours.specs.Inner.{firstClosed};
+use super::windows;
+
+// What is answered: the code, and where it is 0 the start, in minutes from the Monday before the minute that was asked about.
+#[repr(C)]
+pub struct Start {
+    pub code: u32,
+    pub start: u32,
+}
+
+// What is answered where the code is not 0.
+pub fn refused(code: u32) -> Start
+    ensures { λ r. ⌜ r ≡ noStart code ⌝ }
+{
+    Start { code, start: 0 }
+}
+
+// The earliest start from a minute to the week's last whose every minute lies in windows; 10,080 where there is none. `closed` is the
+// week's first minute in no window.
+//
+// One pass over the windows: no start before `start` is left to try, and all minutes from there to `reach` are open. A window that begins
+// after `reach` leaves a closed minute there, so that the next start to try is its first minute. A run that comes to the week's end
+// goes on to the next week's first closed minute.
+fn earliest_from(hours: &[u32], closed: u32, minute: u32, length: u32) -> u32
+    requires { ⌜ (windowsFit (now hours) ≡ true) × ((closed ≡ firstClosed 0 (now hours)) × ((closed < 10080) × (minute < 10080))) ⌝ }
+    ensures { λ r. ⌜ r ≡ earliest (now (hours .entry)) length minute (10080 - minute) ⌝ }
+{
+    let mut start = minute;
+    let mut reach = minute;
+    let mut at = 0;
+    while at < hours.len() {
+        if length <= reach - start {
+            return start;
+        }
+        let first = hours[at];
+        let end = hours[at + 1];
+        if reach < first {
+            start = first;
+        }
+        if reach < end {
+            reach = end;
+        }
+        at += 2;
+    }
+    if reach == 10080 {
+        reach += closed;
+    }
+    if length <= reach - start {
+        return start;
+    }
+    10080
+}
+
+// The earliest start from a minute of the week on, within a week, whose every minute, counted round the week, lies in windows; 33 for a
+// minute or windows that are none, 34 where there is no such start. Starts up to the week's end are tried first, then those of the next
+// week before the same minute.
+pub fn earliest(hours: &[u32], minute: u32, length: u32) -> Start
+    ensures { λ r. ⌜ r ≡ opening (now (hours .entry)) minute length ⌝ }
+{
+    if 10080 <= minute {
+        return refused(33);
+    }
+    if !windows::fit(hours) {
+        return refused(33);
+    }
+    let closed = windows::first_closed(hours);
+    if closed == 10080 {
+        return Start {
+            code: 0,
+            start: minute,
+        };
+    }
+    let here = earliest_from(hours, closed, minute, length);
+    if here < 10080 {
+        return Start {
+            code: 0,
+            start: here,
+        };
+    }
+    let next = earliest_from(hours, closed, 0, length);
+    if next < minute {
+        return Start {
+            code: 0,
+            start: 10080 + next,
+        };
+    }
+    refused(34)
+}
