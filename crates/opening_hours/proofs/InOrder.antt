@@ -1,13 +1,13 @@
 -- Windows in order: the one at a place of the list, the minutes before them, and the first closed minute.
-use mathlib.Core.Path.{_≡_, refl, sym, ap, subst, _∙_}
-use mathlib.Core.Bool.{Bool, true, false, cond, _&&_, _||_, and-false, or-true, and-eq-true-iff, false≢true}
+use mathlib.Core.Path.{_≡_, refl, sym, ap, _∙_}
+use mathlib.Core.Bool.{true, false, cond, _&&_, and-false, and-eq-true-iff, false≢true}
 use mathlib.Core.List.{List, [], _∷_}
-use Prim.Native.Nat.{ℕ, zero, suc, _+_, _≤_, _<_}
+use Prim.Native.Nat.{ℕ, suc, _+_, _≤_, _<_}
 use native.Mathlib.Omega.{arith}
 use lib.Dec.{eqb, leb, ltb}
 use lib.ListN.{length, drop, getD, drop-of-length-le}
 use lib.Seq.{drop-cons}
-use borrow.Author.Tests.{ltb-true, lt-ltb, le-ltb, lt-leb, le-leb, eq-eqb, ne-eqb, eqb-true, eqb-false, leb-true}
+use borrow.Author.Tests.{lt-ltb, le-ltb, lt-leb, le-leb, eq-eqb, ne-eqb, eqb-true, eqb-false}
 use Rattle.sha256.proofs.Cases.{by-bool, cases-lt}
 use Rattle.opening_hours.specs.Opening.{week, inWindows, inOrder, windowsFit}
 use Rattle.opening_hours.specs.Inner.{firstClosed}
@@ -54,9 +54,9 @@ module _ (ws : List ℕ) (at after : ℕ) where
   unfolding inOrder
   half-window h l = rw (one-at ws at h l)
 
-  pub none-left : length ws ≤ at → inOrder after (drop at ws) ≡ true
+  pub order-ended : length ws ≤ at → inOrder after (drop at ws) ≡ true
   unfolding inOrder
-  none-left h = rw (drop-of-length-le ws {i = at} h)
+  order-ended h = rw (drop-of-length-le ws {i = at} h)
 
   module _ (pair : at + 1 < length ws) where
     pub overlaps : first ws at < after → inOrder after (drop at ws) ≡ false
@@ -92,10 +92,6 @@ module _ (ws : List ℕ) (at after : ℕ) where
       }
 
 -- what the check answers
-pub none-given : (ws : List ℕ) → length ws ≤ 0 → false ≡ windowsFit ws
-unfolding windowsFit
-none-given ws h = rw (le-ltb 0 (length ws) h)
-
 pub too-many : (ws : List ℕ) → 64 < length ws → false ≡ windowsFit ws
 unfolding windowsFit
 too-many ws h = rw (lt-leb (length ws) 64 h) (sym (and-false (ltb 0 (length ws))))

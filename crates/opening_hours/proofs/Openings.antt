@@ -1,22 +1,22 @@
 -- The earliest start: each of its answers by what holds then, and what each answer says.
-use mathlib.Core.Path.{_≡_, refl, sym, ap, subst, _∙_}
-use mathlib.Core.Bool.{Bool, true, false, cond, _&&_, and-eq-true-iff}
+use mathlib.Core.Path.{_≡_, refl, _∙_}
+use mathlib.Core.Bool.{true, false, cond, _&&_}
 use mathlib.Core.List.{List}
-use Prim.Native.Nat.{ℕ, zero, _+_, _-_, _≤_, _<_}
+use Prim.Native.Nat.{ℕ, _+_, _-_, _≤_, _<_}
 use native.Mathlib.Omega.{arith}
 use lib.Dec.{eqb, ltb}
-use borrow.Author.Tests.{ltb-true, ltb-false, lt-ltb, le-ltb, eq-eqb, ne-eqb}
+use borrow.Author.Tests.{lt-ltb, le-ltb, eq-eqb, ne-eqb}
 use Rattle.sha256.proofs.Cases.{by-bool, cases-lt}
 use Rattle.firing.specs.Schedule.{reported}
 use Rattle.opening_hours.specs.declared.opening.Start.{Start}
-use Rattle.opening_hours.specs.Opening.{week, inWindows, windowsFit, isOpen, openFor, earliest, earliestStart}
+use Rattle.opening_hours.specs.Opening.{week, windowsFit, openFor, earliest, earliestStart}
 use Rattle.opening_hours.specs.Opening.{openingCode, noStart, opening, scheduleOpening}
 use Rattle.opening_hours.specs.Inner.{firstClosed}
-use Rattle.opening_hours.proofs.InOrder.{FirstClosed, closed-is, in-order}
-use Rattle.opening_hours.proofs.Minutes.{always-open, each-minute, stretch-open, one-closed, some-closed, stretch-week-later}
-use Rattle.opening_hours.proofs.Minutes.{earliest-is, earliest-none, Earliest, earliest-found, open-in-week}
+use Rattle.opening_hours.proofs.InOrder.{closed-is, in-order}
+use Rattle.opening_hours.proofs.Minutes.{always-open, stretch-open, stretch-week-later}
+use Rattle.opening_hours.proofs.Minutes.{earliest-is, earliest-none, Earliest, earliest-found}
 
-abbrev at-start : ℕ → Start
+abbrev pub at-start : ℕ → Start
 at-start u = record { code = 0; start = u }
 
 module _ (ws : List ℕ) (m n : ℕ) where
@@ -34,7 +34,7 @@ module _ (ws : List ℕ) (m n : ℕ) where
 
     module _ (fit : windowsFit ws ≡ true) where
       -- what the earliest start decides
-      judged : opening ws m n ≡ cond (ltb (earliestStart ws m n) (m + week)) (at-start (earliestStart ws m n)) (noStart 34)
+      pub judged : opening ws m n ≡ cond (ltb (earliestStart ws m n) (m + week)) (at-start (earliestStart ws m n)) (noStart 34)
       unfolding opening openingCode
       judged =
           rw (lt-ltb m week minute, fit) (by-bool

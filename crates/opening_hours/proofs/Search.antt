@@ -1,14 +1,15 @@
 -- The pass over the windows of a week, from a minute on.
-use mathlib.Core.Path.{_≡_, refl, sym, _∙_}
+use mathlib.Core.Path.{_≡_, sym, _∙_}
 use mathlib.Core.Bool.{true, false}
 use mathlib.Core.List.{List}
-use Prim.Native.Nat.{ℕ, suc, _+_, _-_, _≤_, _<_}
+use Prim.Native.Nat.{ℕ, _+_, _-_, _≤_, _<_}
 use native.Mathlib.Omega.{arith}
-use lib.ListN.{length, drop, getD, drop-of-length-le}
+use lib.ListN.{length, drop, drop-of-length-le}
 use Rattle.sha256.proofs.Cases.{cases-lt}
 use Rattle.opening_hours.specs.Opening.{week, inWindows, inOrder, windowsFit, isOpen, openFor, earliest}
 use Rattle.opening_hours.specs.Inner.{firstClosed}
-use Rattle.opening_hours.proofs.InOrder.{first, end, later, WindowAt, window-at, in-order, order-goes-on, inside, past, before-all, FirstClosed, closed-is}
+use Rattle.opening_hours.proofs.InOrder.{first, end, later, WindowAt, window-at, in-order, order-goes-on, inside, past, before-all}
+use Rattle.opening_hours.proofs.InOrder.{FirstClosed, closed-is}
 use Rattle.opening_hours.proofs.Minutes.{open-in-week, open-week-later, stretch-open, one-closed, earliest-is, earliest-none}
 
 -- How far the pass has come, at a place of the list: all minutes from `start` to `reach` are open, no start before `start` is left, and
@@ -158,8 +159,8 @@ module _ (ws : List ℕ) (minute minutes : ℕ) where
           (open-week-later ws closed ∙ open-in-week ws closed some ∙ known .shut)
           (λ t a b. absurd (omega arith)))
 
-      pub none-left : reach < week → reach - start < minutes → week ≡ earliest ws minutes minute (week - minute)
-      none-left e h =
+      pub none-in-week : reach < week → reach - start < minutes → week ≡ earliest ws minutes minute (week - minute)
+      none-in-week e h =
           let o = s .order in
           nothing (omega (arith, s .from, s .in-week))
           (none-through reach week (omega arith) (omega arith) (shut-from reach (omega arith) e) (λ t a b. shut-from t (omega arith) b))

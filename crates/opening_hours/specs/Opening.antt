@@ -17,14 +17,14 @@ inWindows [] t = false
 inWindows (first ∷ []) t = false
 inWindows (first ∷ end ∷ rest) t = (leb first t && ltb t end) || inWindows rest t
 
--- "A window may end at 10,080 but not pass it; two may meet." "a window empty, out of range, out of order or overlapping": whether none
--- is, where the window before the first ends at `after`. The end of each goes with its first minute.
+-- "a window empty, out of range, out of order or overlapping": whether none is, where the window before the first of them ends at `after`.
+-- "A window may end at 10,080 but not pass it; two may meet." A first minute that no end follows is no window.
 unfoldable pub inOrder : ℕ → List ℕ → Bool
 inOrder after [] = true
 inOrder after (first ∷ []) = false
 inOrder after (first ∷ end ∷ rest) = leb after first && (ltb first end && (leb end week && inOrder end rest))
 
--- "with 1 to 32 of them", two numbers each
+-- "with 1 to 32 of them", two numbers each.
 unfoldable pub windowsFit : List ℕ → Bool
 windowsFit windows = ltb 0 (length windows) && (leb (length windows) 64 && inOrder 0 windows)
 
@@ -37,7 +37,7 @@ unfoldable pub openFor : List ℕ → ℕ → ℕ → Bool
 openFor windows zero start = true
 openFor windows (suc n) start = isOpen windows start && openFor windows n (suc start)
 
--- The earliest of n starts from one on that have so many minutes open; the number after the last of them where none is such.
+-- The first of n starts, from one on, that has all its minutes open; the number after the last of them where there is none.
 unfoldable pub earliest : List ℕ → ℕ → ℕ → ℕ → ℕ
 earliest windows minutes start zero = start
 earliest windows minutes start (suc n) = cond (openFor windows minutes start) start (earliest windows minutes (suc start) n)

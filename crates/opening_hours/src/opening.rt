@@ -6,7 +6,7 @@ ghost use Rattle.opening_hours.specs.Opening.{windowsFit, earliest, noSt
 ghost use Rattle.opening_hours.specs.Inner.{firstClosed};
 use super::windows;
 
-// What is answered: the code, and where it is 0 the start, in minutes from the Monday before the minute that was asked about.
+// What is answered: the code, and where it is 0 the start, in minutes from Monday 0:00 of the week in which the asked minute lies.
 #[repr(C)]
 pub struct Start {
     pub code: u32,
@@ -57,7 +57,7 @@ fn earliest_from(hours: &[u32], closed: u32, minute: u32, length: u32) -> u32
 }
 
 // The earliest start from a minute of the week on, within a week, whose every minute, counted round the week, lies in windows; 33 for a
-// minute or windows that are none, 34 where there is no such start. Starts up to the week's end are tried first, then those of the next
+// minute or windows that do not fit, 34 where there is no such start. Starts up to the week's end are tried first, then those of the next
 // week before the same minute.
 pub fn earliest(hours: &[u32], minute: u32, length: u32) -> Start
     ensures { λ r. ⌜ r ≡ opening (now (hours .entry)) minute length ⌝ }

@@ -6,8 +6,9 @@ use denote.Ref.{now}
 use borrow.Author.Tests.{not-true, not-false}
 use borrow.Author.Needs.{needs}
 use Rattle.opening_hours.specs.Opening.{windowsFit}
-use Rattle.opening_hours.proofs.InOrder.{in-order, FirstClosed, closed-is}
-use Rattle.opening_hours.proofs.Openings.{minute-refused, windows-refused, week-covered, in-first-week, in-second-week, in-neither-week}
+use Rattle.opening_hours.proofs.InOrder.{in-order, closed-is}
+use Rattle.opening_hours.proofs.Openings.{minute-refused, windows-refused, week-covered, in-first-week, in-second-week}
+use Rattle.opening_hours.proofs.Openings.{in-neither-week}
 use Rattle.opening_hours.proofs.opening.earliest.Statement.{statement}
 use Rattle.opening_hours.proofs.opening.earliest.Tie as tie
 

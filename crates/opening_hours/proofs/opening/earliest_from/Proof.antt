@@ -1,11 +1,10 @@
-use mathlib.Core.Path.{sym}
 use mathlib.Core.Logic.{⊎-elim}
 use Prim.Native.Nat.{_-_}
 use native.Mathlib.Omega.{arith}
 use lib.ListN.{length}
 use borrow.Author.Needs.{needs, scaled-fits}
-use Rattle.opening_hours.proofs.InOrder.{WindowAt}
-use Rattle.opening_hours.proofs.Search.{Searched, begun, found, window, after-gap, joined, passed, found-round, none-round, none-left}
+use Rattle.opening_hours.proofs.Search.{Searched, begun, found, window, after-gap, joined, passed, found-round, none-round}
+use Rattle.opening_hours.proofs.Search.{none-in-week}
 use Rattle.opening_hours.proofs.opening.earliest_from.Statement.{statement}
 use Rattle.opening_hours.proofs.opening.earliest_from.Tie as tie
 
@@ -91,7 +90,8 @@ returns-2 c =
     let start = c .before .before .before .before .before in
     let s = c .before .before .before .before .loop .inv in
     ⊎-elim
-    (λ u. found-round _ _ _ _ _ _ s _ (start .pre .0) (start .pre .1 .0) (start .pre .1 .1 .0) (c .before .before .before .loop-test .left) (u .0 .taken) (rw (← u .1) (c .if5 .taken)))
+    (λ u. found-round _ _ _ _ _ _ s _ (start .pre .0) (start .pre .1 .0) (start .pre .1 .1 .0) (c .before .before .before .loop-test .left)
+    (u .0 .taken) (rw (← u .1) (c .if5 .taken)))
     (λ u. found _ _ _ _ _ _ s (rw (← u .1) (c .if5 .taken)))
     (c .before .before .if4 .came)
 
@@ -100,8 +100,10 @@ returns-3 c =
     let start = c .before .before .before .before .before in
     let s = c .before .before .before .before .loop .inv in
     ⊎-elim
-    (λ u. none-round _ _ _ _ _ _ s _ (start .pre .0) (start .pre .1 .0) (start .pre .1 .1 .0) (c .before .before .before .loop-test .left) (u .0 .taken) (omega (arith, c .if5 .left, u .1)))
-    (λ u. none-left _ _ _ _ _ _ s _ (start .pre .0) (start .pre .1 .0) (start .pre .1 .1 .0) (c .before .before .before .loop-test .left) (omega (arith, u .0 .left, s .within)) (omega (arith, c .if5 .left, u .1)))
+    (λ u. none-round _ _ _ _ _ _ s _ (start .pre .0) (start .pre .1 .0) (start .pre .1 .1 .0) (c .before .before .before .loop-test .left)
+    (u .0 .taken) (omega (arith, c .if5 .left, u .1)))
+    (λ u. none-in-week _ _ _ _ _ _ s _ (start .pre .0) (start .pre .1 .0) (start .pre .1 .1 .0) (c .before .before .before .loop-test .left)
+    (omega (arith, u .0 .left, s .within)) (omega (arith, c .if5 .left, u .1)))
     (c .before .before .if4 .came)
 
 pub earliest-from-spec : {M : Type 1} → statement M

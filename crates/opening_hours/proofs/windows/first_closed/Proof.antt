@@ -6,12 +6,13 @@ use lib.ListN.{length, drop}
 use borrow.Author.Needs.{needs, scaled-fits}
 use Rattle.opening_hours.specs.Opening.{inOrder}
 use Rattle.opening_hours.specs.Inner.{firstClosed}
-use Rattle.opening_hours.proofs.InOrder.{WindowAt, window-at, in-order, run-goes-on, run-ends, run-passed}
+use Rattle.opening_hours.proofs.InOrder.{window-at, in-order, run-goes-on, run-ends, run-passed}
 use Rattle.opening_hours.proofs.windows.first_closed.Statement.{statement}
 use Rattle.opening_hours.proofs.windows.first_closed.Tie as tie
 
 abbrev Inv-loop : tie.InvT-loop
-Inv-loop windows closed₀ at₀ closed at = (at ≤ length windows) × ((firstClosed 0 windows ≡ firstClosed closed (drop at windows)) × (inOrder closed (drop at windows) ≡ true))
+Inv-loop windows closed₀ at₀ closed at =
+    (at ≤ length windows) × ((firstClosed 0 windows ≡ firstClosed closed (drop at windows)) × (inOrder closed (drop at windows) ≡ true))
 
 abbrev μ-loop : tie.MeasureT-loop
 μ-loop windows closed₀ at₀ closed at = length windows - at

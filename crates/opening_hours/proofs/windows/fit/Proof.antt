@@ -4,7 +4,8 @@ use native.Mathlib.Omega.{arith}
 use lib.ListN.{drop}
 use borrow.Author.Needs.{needs}
 use Rattle.opening_hours.specs.Opening.{inOrder}
-use Rattle.opening_hours.proofs.InOrder.{too-many, not-in-order, all-in-order, half-window, none-left, overlaps, empty, too-late, order-goes-on}
+use Rattle.opening_hours.proofs.InOrder.{too-many, not-in-order, all-in-order, half-window, order-ended, overlaps, empty, too-late}
+use Rattle.opening_hours.proofs.InOrder.{order-goes-on}
 use Rattle.opening_hours.proofs.windows.fit.Statement.{statement}
 use Rattle.opening_hours.proofs.windows.fit.Tie as tie
 
@@ -57,10 +58,10 @@ returns-4 c =
 
 returns-5 : tie.Need-returns-5 Inv-loop μ-loop
 returns-5 c =
+    let if2-left = c .before .before .before .before .before .if2 .left in
     let turn = c .before .before .before .before .before .before .before in
     let ws = turn .before .before .args .windows .now in
-    let at = turn .loop .at in
-    not-in-order ws (turn .loop .inv .1 ∙ too-late ws at _ (omega (arith, c .before .before .before .before .before .if2 .left)) (c .if5 .taken))
+    let at = turn .loop .at in not-in-order ws (turn .loop .inv .1 ∙ too-late ws at _ (omega (arith, if2-left)) (c .if5 .taken))
 
 add-at : tie.Need-add-at Inv-loop μ-loop
 add-at c = search needs
@@ -70,16 +71,20 @@ loop-less c = search needs
 
 loop-again : tie.Need-loop-again Inv-loop μ-loop
 loop-again c =
+    let if3-left = c .before .before .before .if3 .left in
     let turn = c .before .before .before .before .before .before .before in
     let ws = turn .before .before .args .windows .now in
     let at = turn .loop .at in
-    let pair = c .before .before .before .before .before .if2 .left in
-    (omega arith, turn .loop .inv .1 ∙ order-goes-on ws at _ (omega arith) (c .before .before .before .if3 .left) (omega (arith, c .before .if4 .left)) (c .if5 .left))
+    let pair = c .before .before .before .before .before .if2 .left in (
+      omega arith,
+      turn .loop .inv .1 ∙ order-goes-on ws at _ (omega arith) if3-left (omega (arith, c .before .if4 .left))
+          (c .if5 .left),
+    )
 
 returns-6 : tie.Need-returns-6 Inv-loop μ-loop
 returns-6 c =
     let ws = c .before .before .before .args .windows .now in
-    all-in-order ws (c .before .before .if1 .left) (c .before .loop .inv .1 ∙ none-left ws _ _ (c .loop-test .left))
+    all-in-order ws (c .before .before .if1 .left) (c .before .loop .inv .1 ∙ order-ended ws _ _ (c .loop-test .left))
 
 pub fit-spec : {M : Type 1} → statement M
 fit-spec =
