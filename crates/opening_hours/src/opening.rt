@@ -20,6 +20,23 @@ pub fn refused(code: u32) -> Start
     Start { code, start: 0 }
 }
 
+// The first minute of the week that lies in no window; 10,080 where the windows cover the week.
+fn first_closed(hours: &[u32]) -> u32
+    requires { ⌜ windowsFit (now hours) ≡ true ⌝ }
+    ensures { λ r. ⌜ r ≡ firstClosed 0 (now (hours .entry)) ⌝ }
+{
+    let mut closed = 0;
+    let mut at = 0;
+    while at < hours.len() {
+        if hours[at] != closed {
+            return closed;
+        }
+        closed = hours[at + 1];
+        at += 2;
+    }
+    closed
+}
+
 // The earliest start from a minute to the week's last whose every minute lies in windows; 10,080 where there is none. `closed` is the
 // week's first minute in no window.
 //
@@ -68,7 +85,7 @@ pub fn earliest(hours: &[u32], minute: u32, length: u32) -> Start
     if !windows::fit(hours) {
         return refused(33);
     }
-    let closed = windows::first_closed(hours);
+    let closed = first_closed(hours);
     if closed == 10080 {
         return Start {
             code: 0,

@@ -1,8 +1,6 @@
 // The windows of a week: first minute and end minute of each, one window behind the other, the end not belonging.
 ghost use mathlib.Core.Path.{_≡_};
-ghost use mathlib.Core.Bool.{true};
 ghost use Rattle.opening_hours.specs.Opening.{windowsFit};
-ghost use Rattle.opening_hours.specs.Inner.{firstClosed};
 
 // Whether there are 1 to 32 windows, none of them empty or past the week's end, and each begins where the one before ends or after that.
 pub fn fit(windows: &[u32]) -> bool
@@ -32,21 +30,4 @@ pub fn fit(windows: &[u32]) -> bool
         at += 2;
     }
     0 < count
-}
-
-// The first minute of the week that lies in no window; 10,080 where the windows cover the week.
-pub fn first_closed(windows: &[u32]) -> u32
-    requires { ⌜ windowsFit (now windows) ≡ true ⌝ }
-    ensures { λ r. ⌜ r ≡ firstClosed 0 (now (windows .entry)) ⌝ }
-{
-    let mut closed = 0;
-    let mut at = 0;
-    while at < windows.len() {
-        if windows[at] != closed {
-            return closed;
-        }
-        closed = windows[at + 1];
-        at += 2;
-    }
-    closed
 }

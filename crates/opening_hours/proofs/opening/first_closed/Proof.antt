@@ -7,15 +7,15 @@ use borrow.Author.Needs.{needs, scaled-fits}
 use Rattle.opening_hours.specs.Opening.{inOrder}
 use Rattle.opening_hours.specs.Inner.{firstClosed}
 use Rattle.opening_hours.proofs.InOrder.{window-at, in-order, run-goes-on, run-ends, run-passed}
-use Rattle.opening_hours.proofs.windows.first_closed.Statement.{statement}
-use Rattle.opening_hours.proofs.windows.first_closed.Tie as tie
+use Rattle.opening_hours.proofs.opening.first_closed.Statement.{statement}
+use Rattle.opening_hours.proofs.opening.first_closed.Tie as tie
 
 abbrev Inv-loop : tie.InvT-loop
-Inv-loop windows closed₀ at₀ closed at =
-    (at ≤ length windows) × ((firstClosed 0 windows ≡ firstClosed closed (drop at windows)) × (inOrder closed (drop at windows) ≡ true))
+Inv-loop hours closed₀ at₀ closed at =
+    (at ≤ length hours) × ((firstClosed 0 hours ≡ firstClosed closed (drop at hours)) × (inOrder closed (drop at hours) ≡ true))
 
 abbrev μ-loop : tie.MeasureT-loop
-μ-loop windows closed₀ at₀ closed at = length windows - at
+μ-loop hours closed₀ at₀ closed at = length hours - at
 
 loop-holds : tie.Need-loop-holds Inv-loop μ-loop
 loop-holds c = (search needs, (refl, in-order _ (c .pre)))
@@ -39,7 +39,7 @@ mul-closed : tie.Need-mul-closed Inv-loop μ-loop
 mul-closed c =
     let turn = c .before .before .before in
     let w = window-at _ _ _ (turn .loop .inv .1 .1) (c .before .before .loop-test .taken) in
-    scaled-fits _ (length (turn .before .args .windows .now)) 4 (w .pair) (search needs)
+    scaled-fits _ (length (turn .before .args .hours .now)) 4 (w .pair) (search needs)
 
 shared-slice-read-closed : tie.Need-shared-slice-read-closed Inv-loop μ-loop
 shared-slice-read-closed c =
