@@ -13,11 +13,11 @@ use Rattle.opening_hours.specs.Opening.{week, inWindows, inOrder, window
 use Rattle.opening_hours.specs.Inner.{firstClosed}
 
 -- The list of windows from a place on, where two numbers stand.
-pub two-at : (ws : List ℕ) (at : ℕ) → at + 1 < length ws → drop at ws ≡ getD ws at 0 ∷ getD ws (at + 1) 0 ∷ drop (at + 2) ws
+pub two-at : (ws : List ℕ) (at : ℕ) → at + 2 ≤ length ws → drop at ws ≡ getD ws at 0 ∷ getD ws (at + 1) 0 ∷ drop (at + 2) ws
 two-at ws at h =
     let one : suc at ≡ at + 1 = omega arith in
     let two : suc (at + 1) ≡ at + 2 = omega arith in
-    let second : drop (suc at) ws ≡ getD ws (at + 1) 0 ∷ drop (at + 2) ws = rw (one, ← two) (drop-cons ws (at + 1) 0 h) in
+    let second : drop (suc at) ws ≡ getD ws (at + 1) 0 ∷ drop (at + 2) ws = rw (one, ← two) (drop-cons ws (at + 1) 0 (omega arith)) in
     drop-cons ws at 0 (omega arith) ∙ ap (λ (r : List ℕ). getD ws at 0 ∷ r) second
 
 -- where one number is left
@@ -37,7 +37,7 @@ module _ (ws : List ℕ) (at : ℕ) where
 
 -- What is known of the window at a place of windows that are in order.
 pub record WindowAt (ws : List ℕ) (at after : ℕ) : Type 0 where
-  pub pair : at + 1 < length ws
+  pub pair : at + 2 ≤ length ws
   pub order : after ≤ first ws at
   pub some : first ws at < end ws at
   pub within : end ws at ≤ week
@@ -58,7 +58,7 @@ module _ (ws : List ℕ) (at after : ℕ) where
   unfolding inOrder
   order-ended h = rw (drop-of-length-le ws {i = at} h)
 
-  module _ (pair : at + 1 < length ws) where
+  module _ (pair : at + 2 ≤ length ws) where
     pub overlaps : first ws at < after → inOrder after (drop at ws) ≡ false
     unfolding inOrder
     overlaps h = rw (two-at ws at pair, lt-leb after (first ws at) h)
@@ -78,8 +78,8 @@ module _ (ws : List ℕ) (at after : ℕ) where
 
   pub window-at : inOrder after (drop at ws) ≡ true → at < length ws → WindowAt ws at after
   window-at e h =
-      let pair : at + 1 < length ws =
-      cases-lt (at + 1) (length ws) (λ l. l) (λ l. absurd (false≢true (sym (half-window h (omega arith)) ∙ e))) in
+      let pair : at + 2 ≤ length ws =
+      cases-lt (length ws) (at + 2) (λ l. absurd (false≢true (sym (half-window h l) ∙ e))) (λ l. l) in
       let order = cases-lt (first ws at) after (λ l. absurd (false≢true (sym (overlaps pair l) ∙ e))) (λ l. l) in
       let some = cases-lt (first ws at) (end ws at) (λ l. l) (λ l. absurd (false≢true (sym (empty pair l) ∙ e))) in
       let within = cases-lt week (end ws at) (λ l. absurd (false≢true (sym (too-late pair l) ∙ e))) (λ l. l) in
@@ -109,7 +109,7 @@ unfolding windowsFit
 in-order ws e = and-eq-true-iff (leb (length ws) 64) _ .0 (and-eq-true-iff (ltb 0 (length ws)) _ .0 e .1) .1
 
 -- Whether a minute lies in the window at a place or in a later one.
-module _ (ws : List ℕ) (at t : ℕ) (pair : at + 1 < length ws) where
+module _ (ws : List ℕ) (at t : ℕ) (pair : at + 2 ≤ length ws) where
   pub inside : first ws at ≤ t → t < end ws at → inWindows (drop at ws) t ≡ true
   unfolding inWindows
   inside a b = rw (two-at ws at pair, le-leb (first ws at) t a, lt-ltb t (end ws at) b)
@@ -164,7 +164,7 @@ closed-is (f ∷ n ∷ rest) after h e =
     (rw (lt-leb f after gap) (before-all rest n after (w .rest) (omega (arith, w .some)))))
 
 -- one turn of the search for it
-module _ (ws : List ℕ) (at after : ℕ) (pair : at + 1 < length ws) where
+module _ (ws : List ℕ) (at after : ℕ) (pair : at + 2 ≤ length ws) where
   pub run-goes-on : first ws at ≡ after → firstClosed after (drop at ws) ≡ firstClosed (end ws at) (later ws at)
   unfolding firstClosed
   run-goes-on e = rw (two-at ws at pair, eq-eqb (first ws at) after e)

@@ -36,13 +36,13 @@ mul-end : tie.Need-mul-end Inv-loop μ-loop
 mul-end c =
     let turn = c .before .before .before in
     let w = window _ _ _ _ _ _ (turn .loop .inv) (c .before .before .loop-test .taken) in
-    scaled-fits _ (length (turn .before .args .hours .now)) 4 (w .pair) (search needs)
+    scaled-fits _ (length (turn .before .args .hours .now)) 4 (omega (arith, w .pair)) (search needs)
 
 shared-slice-read-end : tie.Need-shared-slice-read-end Inv-loop μ-loop
 shared-slice-read-end c =
     let turn = c .before .before .before .before in
     let w = window _ _ _ _ _ _ (turn .loop .inv) (c .before .before .before .loop-test .taken) in
-    w .pair
+    omega (arith, w .pair)
 
 add-at : tie.Need-add-at Inv-loop μ-loop
 add-at c =

@@ -39,13 +39,13 @@ mul-closed : tie.Need-mul-closed Inv-loop μ-loop
 mul-closed c =
     let turn = c .before .before .before in
     let w = window-at _ _ _ (turn .loop .inv .1 .1) (c .before .before .loop-test .taken) in
-    scaled-fits _ (length (turn .before .args .hours .now)) 4 (w .pair) (search needs)
+    scaled-fits _ (length (turn .before .args .hours .now)) 4 (omega (arith, w .pair)) (search needs)
 
 shared-slice-read-closed : tie.Need-shared-slice-read-closed Inv-loop μ-loop
 shared-slice-read-closed c =
     let turn = c .before .before .before .before in
     let w = window-at _ _ _ (turn .loop .inv .1 .1) (c .before .before .before .loop-test .taken) in
-    w .pair
+    omega (arith, w .pair)
 
 add-at : tie.Need-add-at Inv-loop μ-loop
 add-at c =

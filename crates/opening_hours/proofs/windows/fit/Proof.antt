@@ -36,9 +36,7 @@ shared-slice-read-first c = search needs
 returns-3 : tie.Need-returns-3 Inv-loop μ-loop
 returns-3 c =
     let turn = c .before .before .before .before in
-    let ws = turn .before .before .args .windows .now in
-    let at = turn .loop .at in
-    not-in-order ws (turn .loop .inv .1 ∙ overlaps ws at _ (omega (arith, c .before .before .if2 .left)) (c .if3 .taken))
+    not-in-order _ (turn .loop .inv .1 ∙ overlaps _ _ _ (c .before .before .if2 .left) (c .if3 .taken))
 
 add-end : tie.Need-add-end Inv-loop μ-loop
 add-end c = search needs
@@ -51,17 +49,13 @@ shared-slice-read-end c = search needs
 
 returns-4 : tie.Need-returns-4 Inv-loop μ-loop
 returns-4 c =
-    let turn = c .before .before .before .before .before .before in
-    let ws = turn .before .before .args .windows .now in
-    let at = turn .loop .at in
-    not-in-order ws (turn .loop .inv .1 ∙ empty ws at _ (omega (arith, c .before .before .before .before .if2 .left)) (c .if4 .taken))
+    let pair = c .before .before .before .before .if2 .left in
+    not-in-order _ (c .before .before .before .before .before .before .loop .inv .1 ∙ empty _ _ _ pair (c .if4 .taken))
 
 returns-5 : tie.Need-returns-5 Inv-loop μ-loop
 returns-5 c =
-    let if2-left = c .before .before .before .before .before .if2 .left in
     let turn = c .before .before .before .before .before .before .before in
-    let ws = turn .before .before .args .windows .now in
-    let at = turn .loop .at in not-in-order ws (turn .loop .inv .1 ∙ too-late ws at _ (omega (arith, if2-left)) (c .if5 .taken))
+    not-in-order _ (turn .loop .inv .1 ∙ too-late _ _ _ (c .before .before .before .before .before .if2 .left) (c .if5 .taken))
 
 add-at : tie.Need-add-at Inv-loop μ-loop
 add-at c = search needs
@@ -71,15 +65,10 @@ loop-less c = search needs
 
 loop-again : tie.Need-loop-again Inv-loop μ-loop
 loop-again c =
-    let if3-left = c .before .before .before .if3 .left in
-    let turn = c .before .before .before .before .before .before .before in
-    let ws = turn .before .before .args .windows .now in
-    let at = turn .loop .at in
-    let pair = c .before .before .before .before .before .if2 .left in (
-      omega arith,
-      turn .loop .inv .1 ∙ order-goes-on ws at _ (omega arith) if3-left (omega (arith, c .before .if4 .left))
-          (c .if5 .left),
-    )
+    let pair = c .before .before .before .before .before .if2 .left in
+    let order = c .before .before .before .if3 .left in
+    let known = c .before .before .before .before .before .before .before .loop .inv .1 in
+    (pair, known ∙ order-goes-on _ _ _ pair order (c .before .if4 .left) (c .if5 .left))
 
 returns-6 : tie.Need-returns-6 Inv-loop μ-loop
 returns-6 c =
