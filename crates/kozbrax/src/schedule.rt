@@ -9,7 +9,6 @@ use firing::warm;
 use firing::warm::Totals;
 use opening_hours::opening;
 use opening_hours::opening::Start;
-use opening_hours::schedule as hours;
 
 // The total time and the peak of a schedule, or the code that refuses the entry.
 #[no_mangle]
@@ -40,5 +39,5 @@ pub extern "C" fn kozbrax_opening(windows: &[u32], minute: u32, length: u32) -> 
 pub extern "C" fn kozbrax_schedule_opening(entry: &[u8], windows: &[u32], minute: u32) -> Start
     ensures { λ r. ⌜ r ≡ scheduleOpening (now (entry .entry)) (now (windows .entry)) minute ⌝ }
 {
-    hours::earliest(entry, windows, minute)
+    opening::schedule_start(entry, windows, minute)
 }

@@ -1,4 +1,3 @@
 // Opening hours (document 02, j): when a firing may begin.
 pub mod opening;
-pub mod schedule;
 pub mod windows;

@@ -2,9 +2,10 @@
 ghost use mathlib.Core.Path.{_≡_};
 ghost use mathlib.Core.Bool.{true};
 ghost use Prim.Native.Nat.{_-_, _<_};
-ghost use Rattle.opening_hours.specs.Opening.{windowsFit, earliest, noStart, opening};
+ghost use Rattle.opening_hours.specs.Opening.{windowsFit, earliest, noStart, opening, scheduleOpening};
 ghost use Rattle.opening_hours.specs.Inner.{firstClosed};
 use super::windows;
+use firing::schedule;
 
 // What is answered: the code, and where it is 0 the start, in minutes from Monday 0:00 of the week in which the asked minute lies.
 #[repr(C)]
@@ -14,7 +15,7 @@ pub struct Start {
 }
 
 // What is answered where the code is not 0.
-pub fn refused(code: u32) -> Start
+fn refused(code: u32) -> Start
     ensures { λ r. ⌜ r ≡ noStart code ⌝ }
 {
     Start { code, start: 0 }
@@ -107,4 +108,16 @@ pub fn earliest(hours: &[u32], minute: u32, length: u32) -> Start
         };
     }
     refused(34)
+}
+
+// The earliest start of a schedule's firing, of which the total time from a kiln at 20 °C is the length; 19 and 26 as in its report, then 33
+// and 34.
+pub fn schedule_start(entry: &[u8], hours: &[u32], minute: u32) -> Start
+    ensures { λ r. ⌜ r ≡ scheduleOpening (now (entry .entry)) (now (hours .entry)) minute ⌝ }
+{
+    let firing = schedule::report(entry);
+    if firing.code != 0 {
+        return refused(firing.code);
+    }
+    earliest(hours, minute, firing.minutes)
 }

@@ -3,8 +3,8 @@ use borrow.Author.Needs.{needs}
 use Rattle.firing.specs.declared.schedule.Firing.{Firing}
 use Rattle.opening_hours.specs.Opening.{noStart, opening}
 use Rattle.opening_hours.proofs.Openings.{report-refused, total-begins}
-use Rattle.opening_hours.proofs.schedule.earliest.Statement.{statement}
-use Rattle.opening_hours.proofs.schedule.earliest.Tie as tie
+use Rattle.opening_hours.proofs.opening.schedule_start.Statement.{statement}
+use Rattle.opening_hours.proofs.opening.schedule_start.Tie as tie
 
 report-requires : tie.Need-report-requires
 report-requires c κs = search needs
@@ -27,5 +27,5 @@ returns-2 c =
     let minutes = ap (λ (f : Firing). f .minutes) report in
     c .earliest .ensures ∙ ap (opening _ _) minutes ∙ sym (total-begins _ _ _ (sym code ∙ c .before .if1 .left))
 
-pub earliest-spec : {M : Type 1} → statement M
-earliest-spec = tie.close (tie.spec report-requires refused-requires returns earliest-requires returns-2)
+pub schedule-start-spec : {M : Type 1} → statement M
+schedule-start-spec = tie.close (tie.spec report-requires refused-requires returns earliest-requires returns-2)
