@@ -1,7 +1,8 @@
-// What the programs share: the log's name and users' keys, what is printed, what a code says, and a file of cases with its
-// lines.
+// What the programs share: the log's name and users' keys, what is printed, what a code says, a file of cases with its lines, and the
+// numbers that a text lists.
 pub mod file;
 pub mod key;
 pub mod line;
+pub mod numbers;
 pub mod print;
 pub mod sentence;

@@ -1,4 +1,4 @@
-// What a code says, in the words of document 01's table; 26 and 32 are document 02's.
+// What a code says, in the words of document 01's table; 26 and 32 to 34 are document 02's.
 use crate::print;
 
 // The sentence of a refusal, and of the server's where the code is 11. Nothing for 0.
@@ -49,7 +49,8 @@ fn of_answers(code: u8) {
     }
 }
 
-// Codes 17 to 24, for what the user has or was asked to do, with 23 for a Read, 26 for a schedule, and 32 for a warm kiln's starts.
+// Codes 17 to 24, for what the user has or was asked to do, with 23 for a Read, 26 for a schedule, 32 for a warm kiln's starts, and 33 and
+// 34 for opening hours.
 fn of_start(code: u8) {
     match code {
         17 => print::text(b"all 1024 signature numbers are used"),
@@ -66,6 +67,10 @@ fn of_start(code: u8) {
         32 => print::text(
             b"the range of starts is crossed or has an end out of range, or the first rate breaks the sign rule for a start in it",
         ),
+        33 => print::text(
+            b"the minute or the number of windows is out of range, or a window is empty, out of range, out of order or overlapping",
+        ),
+        34 => print::text(b"no start within a week has its every minute in windows"),
         _ => print::text(b"a code that no user has"),
     }
 }
