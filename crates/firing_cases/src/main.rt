@@ -1,12 +1,16 @@
-// Document 02's cases of firing schedules: each range's ends and what lies past them, each way in which a rate has the wrong sign, totals,
-// peaks and lengths; and of a kiln still warm, with its range of starts. Each line of data/cases.txt is one entry, and data/README.md says
-// what its numbers mean. Its name is printed, and the code, the minutes and the peak that are reported, or of a warm kiln the code, the
-// least and the greatest minutes.
+// Document 02's cases of firings. Of schedules: each range's ends and what lies past them, each way in which a rate has the wrong sign,
+// totals, peaks and lengths. Of a kiln still warm: its range of starts. Of opening hours: the earliest start of a firing of some length, or
+// of a schedule's, round the week, and windows that break the rules. Each line of data/cases.txt is one case, and data/README.md says what
+// its numbers mean. Its name is printed, and the code and the numbers that are reported.
 mod entry;
 
 use firing::schedule;
 use firing::warm;
+use opening_hours::opening;
+use opening_hours::opening::Start;
+use opening_hours::schedule as hours;
 use programs::file;
+use programs::numbers;
 use programs::print;
 use sha256::bytes;
 
@@ -38,22 +42,70 @@ fn row(text: &[u8]) {
     print::text(b"\n");
 }
 
-// What is reported of the entry that numbers make. After the word warm, the first two are the ends of a range of starts.
-fn report(numbers: &[u8]) {
-    let mut space = [0u8; 1025];
-    if bytes::byte_at(numbers, 0) == b'w' {
-        let from = entry::after(numbers);
-        let to = entry::after(from);
-        let n = entry::make(entry::after(to), &mut space);
-        let t = warm::report(
-            bytes::front(&space, n),
-            entry::number(from),
-            entry::number(to),
-        );
-        print::reported(t.code, b", least ", t.least, b", greatest ", t.greatest);
+// What is reported of a case. The word before its numbers says what is asked; without one it is the report from 20.
+fn report(case: &[u8]) {
+    let word = bytes::front(case, lines::find(case, b' '));
+    if bytes::same(word, b"warm") {
+        warm_totals(numbers::after(case));
+    } else if bytes::same(word, b"begin") {
+        start_of_length(numbers::after(case));
+    } else if bytes::same(word, b"schedule") {
+        start_of_schedule(numbers::after(case));
     } else {
-        let n = entry::make(numbers, &mut space);
-        let f = schedule::report(bytes::front(&space, n));
-        print::reported(f.code, b", minutes ", f.minutes, b", peak ", f.peak);
+        firing_from_20(case);
     }
+}
+
+// The minutes and the peak of the entry that numbers make.
+fn firing_from_20(text: &[u8]) {
+    let mut space = [0u8; 1025];
+    let n = entry::make(text, &mut space);
+    let f = schedule::report(bytes::front(&space, n));
+    print::reported(f.code, b", minutes ", f.minutes, b", peak ", f.peak);
+}
+
+// The least and the greatest minutes from a range of starts, whose ends are the first two numbers; the others make an entry.
+fn warm_totals(text: &[u8]) {
+    let mut space = [0u8; 1025];
+    let to = numbers::after(text);
+    let n = entry::make(numbers::after(to), &mut space);
+    let t = warm::report(
+        bytes::front(&space, n),
+        numbers::number(text),
+        numbers::number(to),
+    );
+    print::reported(t.code, b", least ", t.least, b", greatest ", t.greatest);
+}
+
+// The earliest start for a minute, a length and windows, which are numbers in this order.
+fn start_of_length(text: &[u8]) {
+    let mut windows = [0u32; 130];
+    let length = numbers::after(text);
+    let n = numbers::lay(numbers::after(length), &mut windows);
+    let s = opening::earliest(
+        &windows[..n],
+        numbers::number(text),
+        numbers::number(length),
+    );
+    print_start(s);
+}
+
+// The earliest start for a minute, windows and, after a bar, an entry.
+fn start_of_schedule(text: &[u8]) {
+    let mut space = [0u8; 1025];
+    let mut windows = [0u32; 130];
+    let bar = lines::find(text, b'|');
+    let n = entry::make(bytes::from(bytes::from(text, bar), 2), &mut space);
+    let count = numbers::lay(numbers::after(bytes::front(text, bar)), &mut windows);
+    let s = hours::earliest(
+        bytes::front(&space, n),
+        &windows[..count],
+        numbers::number(text),
+    );
+    print_start(s);
+}
+
+fn print_start(s: Start) {
+    print::number(b"code ", s.code as usize);
+    print::number(b", start ", s.start as usize);
 }

@@ -7,10 +7,10 @@ use Rattle.firing_cases.proofs.entry.put_segments.Statement.{statement}
 use Rattle.firing_cases.proofs.entry.put_segments.Tie as tie
 
 abbrev Inv-loop : tie.InvT-loop
-Inv-loop numbers out₀ at₀ k₀ out at k = (k ≤ at) × (length out ≡ length out₀)
+Inv-loop text out₀ at₀ k₀ out at k = (k ≤ at) × (length out ≡ length out₀)
 
 abbrev μ-loop : tie.MeasureT-loop
-μ-loop numbers out₀ at₀ k₀ out at k = length numbers - at
+μ-loop text out₀ at₀ k₀ out at k = length text - at
 
 loop-holds : tie.Need-loop-holds Inv-loop μ-loop
 loop-holds c = search needs
