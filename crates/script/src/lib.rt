@@ -1,4 +1,6 @@
-// A line of a studio script: a word, one, two or four numbers, and a text or the segments of a schedule, which take the rest of the line.
+// A line of a studio script: a word, one to four numbers, and a text, the segments of a schedule or the minutes of windows, which take the
+// rest of the line.
+mod list;
 pub mod segments;
 
 use lines::Digits;
@@ -18,11 +20,12 @@ pub enum Word {
     Fire,
     Report,
     Warm,
+    Begin,
     Unknown,
 }
 
-// What is wrong with a line: its word, a number that is missing or out of range, a text that is missing or too long, a rate, a target or
-// a hold that is missing or that two bytes do not hold, or that the line has more than its command takes.
+// What is wrong with a line: its word, a number that is missing or out of range, a text that is missing or too long, a rate, a target, a
+// hold or a window's minute that is missing or that two bytes do not hold, or that the line has more than its command takes.
 pub enum Fault {
     Nothing,
     UnknownWord,
@@ -34,10 +37,11 @@ pub enum Fault {
     Rate,
     Target,
     Hold,
+    Minute,
     TooMuch,
 }
 
-// A command: its word, its numbers, and the place on the line where its text or its segments begin.
+// A command: its word, its numbers, and the place on the line where its text or what it lists begins.
 pub struct Command {
     pub word: Word,
     pub first: u32,
@@ -99,8 +103,11 @@ fn numbers_at(line: &[u8], at: usize) -> Numbers {
 
 // Where the numbers end that a word takes.
 fn end(word: Word, n: Numbers) -> usize {
-    if takes_range(word) {
+    if takes_fourth(word) {
         return n.fourth.next;
+    }
+    if takes_third(word) {
+        return n.third.next;
     }
     if takes_second(word) {
         return n.second.next;
@@ -153,6 +160,9 @@ fn kiln_word_of(s: &[u8]) -> Word {
     if bytes::same(s, b"warm") {
         return Word::Warm;
     }
+    if bytes::same(s, b"begin") {
+        return Word::Begin;
+    }
     Word::Unknown
 }
 
@@ -191,10 +201,12 @@ fn fault_of(word: Word, servers: u8, n: Numbers, left: &[u8]) -> Fault {
             return Fault::SecondNumber;
         }
     }
-    if takes_range(word) {
+    if takes_third(word) {
         if !is_within(n.third, 0, 65535) {
             return Fault::ThirdNumber;
         }
+    }
+    if takes_fourth(word) {
         if !is_within(n.fourth, 0, 65535) {
             return Fault::FourthNumber;
         }
@@ -202,8 +214,8 @@ fn fault_of(word: Word, servers: u8, n: Numbers, left: &[u8]) -> Fault {
     if takes_text(word) {
         return text_fault(left.len());
     }
-    if takes_segments(word) {
-        return segments::fault(left);
+    if takes_list(word) {
+        return list::fault(word, left);
     }
     if 0 < left.len() {
         return Fault::TooMuch;
@@ -263,6 +275,7 @@ fn takes_second(word: Word) -> bool {
         Word::Cut => true,
         Word::Report => true,
         Word::Warm => true,
+        Word::Begin => true,
         _ => false,
     }
 }
@@ -282,8 +295,17 @@ pub fn second_most(word: Word) -> u32 {
     }
 }
 
-// Whether the third and the fourth number are the ends of a range of starts.
-fn takes_range(word: Word) -> bool {
+// Whether there is a third number: the first end of a range of starts, or a minute of the week.
+fn takes_third(word: Word) -> bool {
+    match word {
+        Word::Warm => true,
+        Word::Begin => true,
+        _ => false,
+    }
+}
+
+// Whether there is a fourth number: the second end of a range of starts.
+fn takes_fourth(word: Word) -> bool {
     match word {
         Word::Warm => true,
         _ => false,
@@ -299,9 +321,10 @@ fn takes_text(word: Word) -> bool {
     }
 }
 
-fn takes_segments(word: Word) -> bool {
+fn takes_list(word: Word) -> bool {
     match word {
         Word::Fire => true,
+        Word::Begin => true,
         _ => false,
     }
 }

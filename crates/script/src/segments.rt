@@ -19,25 +19,6 @@ struct Rate {
     next: usize,
 }
 
-// What is wrong with the segments of a line, which are 1 to 16.
-pub fn fault(text: &[u8]) -> Fault {
-    let mut at = 0;
-    let mut count: u8 = 0;
-    while count < 16 {
-        let s = segment(text, at);
-        let wrong = s.fault;
-        if is_fault(wrong) {
-            return wrong;
-        }
-        at = s.next;
-        if text.len() <= at {
-            return Fault::Nothing;
-        }
-        count += 1;
-    }
-    Fault::TooMuch
-}
-
 // The segment after the blanks at a place.
 pub fn segment(text: &[u8], at: usize) -> Listed {
     let rate = rate_at(text, lines::skip_blanks(text, at));
@@ -88,11 +69,4 @@ fn fault_of(rate: Rate, target: Digits, hold: Digits) -> Fault {
         return Fault::Hold;
     }
     Fault::Nothing
-}
-
-fn is_fault(fault: Fault) -> bool {
-    match fault {
-        Fault::Nothing => false,
-        _ => true,
-    }
 }

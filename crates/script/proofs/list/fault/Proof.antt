@@ -1,20 +1,23 @@
--- `fault` is safe and ends: it has a turn for each of at most 16 segments.
+-- `fault` is safe and ends: it has a turn for each of at most `most` segments or minutes.
 use borrow.Author.Needs.{needs}
 use Prim.Native.Nat.{_≤_, _-_}
-use Rattle.script.proofs.segments.fault.Statement.{statement}
-use Rattle.script.proofs.segments.fault.Tie as tie
+use Rattle.script.proofs.list.fault.Statement.{statement}
+use Rattle.script.proofs.list.fault.Tie as tie
 
 abbrev Inv-loop : tie.InvT-loop
-Inv-loop text at₀ count₀ at count = count ≤ 16
+Inv-loop word text most at₀ count₀ at count = count ≤ most
 
 abbrev μ-loop : tie.MeasureT-loop
-μ-loop text at₀ count₀ at count = 16 - count
+μ-loop word text most at₀ count₀ at count = most - count
+
+most-requires : tie.Need-most-requires Inv-loop μ-loop
+most-requires c κs = search needs
 
 loop-holds : tie.Need-loop-holds Inv-loop μ-loop
 loop-holds c = search needs
 
-segment-requires : tie.Need-segment-requires Inv-loop μ-loop
-segment-requires c κs = search needs
+item-at-requires : tie.Need-item-at-requires Inv-loop μ-loop
+item-at-requires c κs = search needs
 
 is-fault-requires : tie.Need-is-fault-requires Inv-loop μ-loop
 is-fault-requires c κs = search needs
@@ -43,8 +46,9 @@ fault-spec =
     (tie.spec
     Inv-loop
     μ-loop
+    most-requires
     loop-holds
-    segment-requires
+    item-at-requires
     is-fault-requires
     returns
     returns-2
