@@ -1,6 +1,7 @@
 // Firing schedules: the entry of one, and what is printed of one.
 use crate::curve;
 use crate::report;
+use crate::week;
 use exchange::user_place;
 use firing::schedule;
 use firing::segment;
@@ -64,8 +65,9 @@ pub fn summary(entry: &[u8]) {
     print::number(b", peak ", f.peak as usize);
 }
 
-// What a command asks of the entry that a Read found, where it did not end with a refusal: the report from 20, or from a warm kiln.
-pub fn report(c: Command, place: &[u8]) {
+// What a command asks of the entry that a Read found, where it did not end with a refusal: the report from 20, or from a warm kiln, or when
+// the firing may begin within the windows that a text lists.
+pub fn report(c: Command, text: &[u8], place: &[u8]) {
     if bytes::byte_at(place, user_place::CODE) != 0 {
         return;
     }
@@ -74,6 +76,7 @@ pub fn report(c: Command, place: &[u8]) {
     let word = c.word;
     match word {
         Word::Warm => print_totals(entry, c.third, c.fourth),
+        Word::Begin => week::print_start(entry, c.third, text),
         _ => print_firing(entry),
     }
 }
@@ -97,7 +100,7 @@ fn print_totals(entry: &[u8], from: u32, to: u32) {
 }
 
 // The end of a report's line, and what a refusal says.
-fn end_report(code: u32) {
+pub fn end_report(code: u32) {
     print::text(b"\n");
     sentence::refusal((code % 256) as u8, 0);
 }

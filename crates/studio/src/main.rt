@@ -1,6 +1,7 @@
 // A log shown to a newcomer: servers and three users in one process, driven by a script on standard input, a command to a line.
 // docs/STUDIO.md lists the commands. Printed are each step's code, its answers and what the user keeps, entries and boards, a schedule's
-// times and its curve, and, once the servers keep two copies of the log, where the users' views differ, against Q, and who notices it.
+// times, its curve and when it may begin, and, once the servers keep two copies of the log, where the users' views differ, against Q, and
+// who notices it.
 mod board;
 mod call;
 mod curve;
@@ -9,6 +10,7 @@ mod group;
 mod kiln;
 mod report;
 mod run;
+mod week;
 mod world;
 
 use group::Group;

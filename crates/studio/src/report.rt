@@ -45,6 +45,7 @@ pub fn fault(at: usize, c: Command, servers: u8) -> bool {
         Fault::Rate => said(at, b"a rate is missing or not in -32768 .. 32767"),
         Fault::Target => said(at, b"a target is missing or not in 0 .. 65535"),
         Fault::Hold => said(at, b"a hold is missing or not in 0 .. 65535"),
+        Fault::Minute => said(at, b"a window's minute is no number or not in 0 .. 65535"),
         Fault::TooMuch => said(at, b"the line has more than the command takes"),
     }
     true

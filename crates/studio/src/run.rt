@@ -46,17 +46,19 @@ fn begin(n: u32, world: &mut [u8]) -> Group {
 // A user's call.
 fn act(c: Command, line: &[u8], g: Group, world: &mut [u8], keys: &[u8]) {
     let own = (c.first % 256) as u8;
+    let rest = bytes::from(line, c.text);
     let word = c.word;
     match word {
         Word::Update => update(g, own, world, keys),
-        Word::Read => read(c, g, world, keys),
-        Word::Report => read(c, g, world, keys),
-        Word::Warm => read(c, g, world, keys),
+        Word::Read => read(c, rest, g, world, keys),
+        Word::Report => read(c, rest, g, world, keys),
+        Word::Warm => read(c, rest, g, world, keys),
+        Word::Begin => read(c, rest, g, world, keys),
         Word::Board => board::show(g, own, world, keys),
         Word::Settled => settled(g, own, c.second, world, keys),
         Word::Strike => strike(g, own, c.second, world, keys),
-        Word::Fire => fire(g, own, bytes::from(line, c.text), world, keys),
-        _ => write(c, bytes::from(line, c.text), g, world, keys),
+        Word::Fire => fire(g, own, rest, world, keys),
+        _ => write(c, rest, g, world, keys),
     }
 }
 
@@ -67,17 +69,16 @@ fn update(g: Group, own: u8, world: &mut [u8], keys: &[u8]) {
     fork::after(g, own, open_before, world, keys);
 }
 
-// Reads a position, and prints the entry there or what is reported of its firing.
-fn read(c: Command, g: Group, world: &mut [u8], keys: &[u8]) {
+// Reads a position, and prints the entry there or what is reported of its firing, with the windows that a text lists.
+fn read(c: Command, text: &[u8], g: Group, world: &mut [u8], keys: &[u8]) {
     let own = (c.first % 256) as u8;
     let word = c.word;
     let answers = call::read(g, own, c.second, world, keys);
     let place = world::user(own, world);
     report::call(place, answers);
     match word {
-        Word::Report => kiln::report(c, place),
-        Word::Warm => kiln::report(c, place),
-        _ => report::entry(c.second, place),
+        Word::Read => report::entry(c.second, place),
+        _ => kiln::report(c, text, place),
     }
     fork::notice(g, own, c.second, world::some_open(world), world);
 }
