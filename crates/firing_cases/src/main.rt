@@ -8,7 +8,6 @@ use firing::schedule;
 use firing::warm;
 use opening_hours::opening;
 use opening_hours::opening::Start;
-use opening_hours::schedule as hours;
 use programs::file;
 use programs::numbers;
 use programs::print;
@@ -97,7 +96,7 @@ fn start_of_schedule(text: &[u8]) {
     let bar = lines::find(text, b'|');
     let n = entry::make(bytes::from(bytes::from(text, bar), 2), &mut space);
     let count = numbers::lay(numbers::after(bytes::front(text, bar)), &mut windows);
-    let s = hours::earliest(
+    let s = opening::schedule_start(
         bytes::front(&space, n),
         &windows[..count],
         numbers::number(text),

@@ -1,6 +1,6 @@
 // When a firing may begin within opening hours: a minute of the week, which begins on Monday at 0:00, and what is printed of it.
 use crate::kiln;
-use opening_hours::schedule;
+use opening_hours::opening;
 use programs::numbers;
 use programs::print;
 
@@ -8,7 +8,7 @@ use programs::print;
 pub fn print_start(entry: &[u8], minute: u32, text: &[u8]) {
     let mut windows = [0u32; 66];
     let n = numbers::lay(text, &mut windows);
-    let s = schedule::earliest(entry, &windows[..n], minute);
+    let s = opening::schedule_start(entry, &windows[..n], minute);
     print::number(b"code ", s.code as usize);
     if s.code == 0 {
         print::number(b", start ", s.start as usize);
