@@ -45,16 +45,10 @@ shared-slice-read-end c =
     omega (arith, w .pair)
 
 add-at : tie.Need-add-at Inv-loop μ-loop
-add-at c =
-    let turn = c .before .before .before .before .before .before in
-    let w = window _ _ _ _ _ _ (turn .loop .inv) (c .before .before .before .before .before .loop-test .taken) in
-    search needs
+add-at c = search needs
 
 loop-less : tie.Need-loop-less Inv-loop μ-loop
-loop-less c =
-    let turn = c .before .before .before .before .before .before in
-    let w = window _ _ _ _ _ _ (turn .loop .inv) (c .before .before .before .before .before .loop-test .taken) in
-    search needs
+loop-less c = search needs
 
 loop-again : tie.Need-loop-again Inv-loop μ-loop
 loop-again c =
