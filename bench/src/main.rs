@@ -12,6 +12,7 @@ mod schedule;
 mod server;
 mod stack;
 mod store;
+mod tally;
 mod timing;
 mod tree;
 mod user;

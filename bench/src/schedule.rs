@@ -5,18 +5,16 @@ mod tally;
 pub mod warm;
 
 use crate::sample::Random;
+use crate::tally::{sweep, Trial, OFTEN};
 use crate::timing::{Clock, Race};
 use crate::{library, stack};
 use std::hint::black_box;
-use tally::{Tally, Trial};
+use tally::Tally;
 
 const ROUNDS: usize = 100;
 
 /// How many schedules are reported in turn while the time is taken: one, whose branches the processor learns, and many.
 const IN_TURN: [usize; 2] = [1, 1024];
-
-/// How often each code has to come up for the comparison to count.
-const OFTEN: u64 = 10_000;
 
 /// The code, and where it is 0 the total of minutes and the highest target.
 #[repr(C)]
@@ -50,15 +48,6 @@ pub fn run(seed: u64) {
     warm::run(seed);
 }
 
-/// Takes all sweeps, and prints how many calls each of them was.
-fn sweep<T: Trial>(tally: &mut T, sweeps: &[(&str, fn(&mut T))]) {
-    for (name, sweep) in sweeps {
-        let before = tally.codes().calls();
-        sweep(tally);
-        println!("  {name:>29}  {:>9} calls", tally.codes().calls() - before);
-    }
-}
-
 fn report_all(report: Report, schedules: &[Vec<u8>]) {
     for entry in schedules {
         black_box(report(black_box(entry)));
@@ -71,20 +60,7 @@ fn time(random: &mut Random, segments: usize, count: usize) {
     for _ in 0..ROUNDS {
         race.round(|| report_all(black_box(LIBRARY), &schedules), || report_all(black_box(PLAIN), &schedules));
     }
-    print_times(&format!("{segments:>2} segments, {count:>4} schedules in turn"), &race, [count, count]);
-}
-
-/// A line with the nanoseconds for a call of the library and of plain Rust, of which a round's call makes so many.
-fn print_times(name: &str, race: &Race, [of_library, of_plain]: [usize; 2]) {
-    let (best, median) = (race.best(), race.medians());
-    let [library, plain] = [of_library, of_plain].map(|calls| 1e9 / calls as f64);
-    println!(
-        "  {name}  library {:.1}, {:.1}  plain {:.1}, {:.1}",
-        best.0 * library,
-        median.0 * library,
-        best.1 * plain,
-        median.1 * plain
-    );
+    race.print_nanoseconds(&format!("{segments:>2} segments, {count:>4} schedules in turn"), [count, count]);
 }
 
 fn print_stack(entry: &[u8], segments: usize) {

@@ -90,6 +90,20 @@ impl Race {
             self.median_ratio(),
         );
     }
+
+    /// A line with the nanoseconds for a call of the library, which was the first side, and of plain Rust, best and median,
+    /// where a call of a round makes so many of each.
+    pub fn print_nanoseconds(&self, name: &str, [of_library, of_plain]: [usize; 2]) {
+        let (best, median) = (self.best(), self.medians());
+        let [library, plain] = [of_library, of_plain].map(|calls| 1e9 / calls as f64);
+        println!(
+            "  {name}  library {:.1}, {:.1}  plain {:.1}, {:.1}",
+            best.0 * library,
+            median.0 * library,
+            best.1 * plain,
+            median.1 * plain
+        );
+    }
 }
 
 fn median(values: impl Iterator<Item = f64>) -> f64 {

@@ -1,8 +1,8 @@
 //! The entries that are tried: schedules that keep the rules, each field through all its values and at and past its ends, each
 //! sign, damaged schedules, and bytes that are none.
 use super::plain::{LONGEST_ENTRY, SEGMENT};
-use super::tally::Trial;
 use crate::sample::Random;
+use crate::tally::Trial;
 
 pub const LOWEST: u16 = 20;
 pub const HIGHEST: u16 = 1350;

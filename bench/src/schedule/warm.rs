@@ -5,8 +5,9 @@ mod tally;
 
 use super::plain::{AGAINST_RULES, MISSHAPEN};
 use super::sweeps::{valid_entry, HIGHEST};
-use super::{print_times, sweep, IN_TURN, OFTEN, ROUNDS};
+use super::{IN_TURN, ROUNDS};
 use crate::sample::Random;
+use crate::tally::{sweep, OFTEN};
 use crate::timing::{Clock, Race};
 use crate::{library, stack};
 use std::hint::black_box;
@@ -83,7 +84,7 @@ fn time(schedules: &[Vec<u8>], segments: usize, range: &Range) {
     }
     let count = schedules.len();
     let name = format!("{segments:>2} segments, {count:>4} schedules in turn, {:>15}", range.name);
-    print_times(&name, &race, [count * range.library_passes, count]);
+    race.print_nanoseconds(&name, [count * range.library_passes, count]);
 }
 
 fn print_stack(entry: &[u8], segments: usize, range: &Range) {

@@ -3,7 +3,7 @@ use super::tally::Tally;
 use crate::sample::Random;
 use crate::schedule::plain::LONGEST_ENTRY;
 use crate::schedule::sweeps::{entry, segment, valid, valid_entry, FASTEST, HIGHEST, LOWEST, MOST_SEGMENTS};
-use crate::schedule::tally::Trial;
+use crate::tally::Trial;
 
 /// How many schedules of each count of segments are tried with all pairs of edges: such as keep the rules, and damaged ones.
 const OF_EACH_COUNT: usize = 200;

@@ -2,36 +2,30 @@
 use super::sweeps::drawn_ends;
 use super::{LIBRARY, PLAIN};
 use crate::sample::Random;
-use crate::schedule::tally::{figures, Codes, Trial};
-
-/// How many of the differences are printed.
-const PRINTED: u64 = 3;
+use crate::tally::{figures, Codes, Differences, Trial};
 
 pub struct Tally {
     random: Random,
     codes: Codes,
     /// How often the least total was the greatest, for a range of one start and for one of more.
     one_total: [u64; 2],
-    differences: u64,
+    differences: Differences,
 }
 
 impl Tally {
     pub fn new(seed: u64) -> Tally {
-        Tally { random: Random::new(seed), codes: Codes::default(), one_total: [0; 2], differences: 0 }
+        Tally {
+            random: Random::new(seed),
+            codes: Codes::default(),
+            one_total: [0; 2],
+            differences: Differences::default(),
+        }
     }
 
     /// Both sides have to report the same of the starts in this range.
     pub fn compare_from(&mut self, entry: &[u8], from: u32, to: u32) {
         let [library, plain] = [LIBRARY, PLAIN].map(|report| report(entry, from, to));
-        if library != plain {
-            self.differences += 1;
-            if self.differences <= PRINTED {
-                println!(
-                    "schedule {} from {from} to {to}: the library gave {library:?}, plain Rust {plain:?}",
-                    figures(entry)
-                );
-            }
-        }
+        self.differences.count([library, plain], || format!("schedule {} from {from} to {to}", figures(entry)));
         self.codes.count(library.code);
         if library.code == 0 && library.least == library.greatest {
             self.one_total[usize::from(from < to)] += 1;
@@ -47,10 +41,7 @@ impl Tally {
 
     /// Prints what came up, each of these codes this often and no other. The run ends here where the sides differed.
     pub fn demand(&self, codes: &[u32], often: u64) {
-        println!("{} calls in all, {} differences, by code:", self.codes.calls(), self.differences);
-        if self.differences > 0 {
-            std::process::exit(1);
-        }
+        self.differences.demand_none(self.codes.calls());
         self.codes.demand(codes, often);
         let [of_one, of_more] = self.one_total;
         println!("  the least is the greatest: {of_one} calls with one start, {of_more} with more");
