@@ -2,6 +2,7 @@
 //! Nothing checks these declarations against the Rattle source: keep them as the header has them.
 
 use crate::lms::Signer;
+use crate::opening::Start;
 use crate::plain_server::HEAD;
 use crate::schedule::warm::Totals;
 use crate::schedule::Firing;
@@ -9,6 +10,7 @@ use crate::server::{Served, Settings};
 use crate::user::{Asked, Lent, SettledAnswer, Signing, KEPT};
 
 mod raw {
+    use crate::opening::Start;
     use crate::schedule::warm::Totals;
     use crate::schedule::Firing;
     use crate::server::Served;
@@ -53,6 +55,14 @@ mod raw {
         pub fn kozbrax_board(targets: *const u32, targets_len: usize, standing: *mut u32, standing_len: usize) -> u32;
         pub fn kozbrax_schedule(entry: *const u8, entry_len: usize) -> Firing;
         pub fn kozbrax_schedule_warm(entry: *const u8, entry_len: usize, from: u32, to: u32) -> Totals;
+        pub fn kozbrax_opening(windows: *const u32, windows_len: usize, minute: u32, length: u32) -> Start;
+        pub fn kozbrax_schedule_opening(
+            entry: *const u8,
+            entry_len: usize,
+            windows: *const u32,
+            windows_len: usize,
+            minute: u32,
+        ) -> Start;
         pub fn kozbrax_server(
             servers: u32,
             own: u32,
@@ -244,6 +254,18 @@ pub fn schedule(entry: &[u8]) -> Firing {
 pub fn schedule_warm(entry: &[u8], from: u32, to: u32) -> Totals {
     // SAFETY: as for `lms_check`.
     unsafe { raw::kozbrax_schedule_warm(entry.as_ptr(), entry.len(), from, to) }
+}
+
+/// The code, and where it is 0 the earliest start of a firing of this length within the windows, from the minute on.
+pub fn opening(windows: &[u32], minute: u32, length: u32) -> Start {
+    // SAFETY: as for `lms_check`; the length of the windows counts numbers.
+    unsafe { raw::kozbrax_opening(windows.as_ptr(), windows.len(), minute, length) }
+}
+
+/// The same of the firing that the entry holds.
+pub fn schedule_opening(entry: &[u8], windows: &[u32], minute: u32) -> Start {
+    // SAFETY: as for `opening`.
+    unsafe { raw::kozbrax_schedule_opening(entry.as_ptr(), entry.len(), windows.as_ptr(), windows.len(), minute) }
 }
 
 /// The code, the length of the answer in its buffer, and the store's new used length. 22 and 21 write nothing.

@@ -4,6 +4,7 @@ mod library;
 mod lms;
 #[cfg(before)]
 mod map;
+mod opening;
 mod plain;
 mod plain_lms;
 mod plain_server;
@@ -27,6 +28,7 @@ fn main() {
         "map" => map::run(),
         #[cfg(before)]
         "map-once" => map::once(seed as usize),
+        "opening" => opening::run(seed),
         "schedule" => schedule::run(seed),
         "server" => server::run(seed),
         "store" => store::run(seed),
@@ -34,8 +36,8 @@ fn main() {
         "user" => user::run(seed),
         _ => {
             eprintln!(
-                "usage: cargo run --release -- SUBJECT, where SUBJECT is: hash, lms, schedule [SEED], server [SEED], store [SEED], \
-                 tree [SEED], user [SEED]; or map, if it was built with KOZBRAX_BEFORE=FOLDER (README.md)"
+                "usage: cargo run --release -- SUBJECT, where SUBJECT is: hash, lms, opening [SEED], schedule [SEED], server [SEED], \
+                 store [SEED], tree [SEED], user [SEED]; or map, if it was built with KOZBRAX_BEFORE=FOLDER (README.md)"
             );
             std::process::exit(2);
         }

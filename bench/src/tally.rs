@@ -22,8 +22,11 @@ pub trait Trial {
     fn accepted(&mut self, entry: &[u8]);
 }
 
+/// A name, and the calls of one sort, which one tries.
+pub type Sweep<T> = (&'static str, fn(&mut T));
+
 /// Takes all sweeps, and prints how many calls each of them was.
-pub fn sweep<T: Trial>(tally: &mut T, sweeps: &[(&str, fn(&mut T))]) {
+pub fn sweep<T: Trial>(tally: &mut T, sweeps: &[Sweep<T>]) {
     for (name, sweep) in sweeps {
         let before = tally.codes().calls();
         sweep(tally);

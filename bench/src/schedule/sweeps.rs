@@ -2,12 +2,12 @@
 //! sign, damaged schedules, and bytes that are none.
 use super::plain::{LONGEST_ENTRY, SEGMENT};
 use crate::sample::Random;
-use crate::tally::Trial;
+use crate::tally::{Sweep, Trial};
 
 pub const LOWEST: u16 = 20;
 pub const HIGHEST: u16 = 1350;
 pub const FASTEST: i16 = 600;
-const LONGEST_HOLD: u16 = 5999;
+pub const LONGEST_HOLD: u16 = 5999;
 pub const MOST_SEGMENTS: usize = 16;
 
 /// Schedules that keep the rules, of each count of segments.
@@ -25,7 +25,7 @@ const TARGETS: [u16; 14] = [0, 19, 20, 21, 255, 256, 699, 700, 701, 1349, 1350, 
 const HOLDS: [u16; 10] = [0, 1, 255, 256, 5998, 5999, 6000, 6001, 32_768, u16::MAX];
 
 /// The sweeps, by name, for one who tries each of their entries.
-pub fn all<T: Trial>() -> [(&'static str, fn(&mut T)); 8] {
+pub fn all<T: Trial>() -> [Sweep<T>; 8] {
     [
         ("schedules that keep the rules", valid_schedules),
         ("all differences at all rates", roundings),

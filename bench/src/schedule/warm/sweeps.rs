@@ -3,7 +3,7 @@ use super::tally::Tally;
 use crate::sample::Random;
 use crate::schedule::plain::LONGEST_ENTRY;
 use crate::schedule::sweeps::{entry, segment, valid, valid_entry, FASTEST, HIGHEST, LOWEST, MOST_SEGMENTS};
-use crate::tally::Trial;
+use crate::tally::{Sweep, Trial};
 
 /// How many schedules of each count of segments are tried with all pairs of edges: such as keep the rules, and damaged ones.
 const OF_EACH_COUNT: usize = 200;
@@ -17,7 +17,7 @@ const ALL_PAIRS: [(i16, u16); 8] =
 const PAST_16_BITS: u32 = 1 << 16;
 const PAST_31_BITS: u32 = 1 << 31;
 
-pub const ALL: [(&str, fn(&mut Tally)); 7] = [
+pub const ALL: [Sweep<Tally>; 7] = [
     ("edges, rules kept", edges_of_valid),
     ("edges, all rates", edges_at_all_rates),
     ("edges, first rate 0", edges_at_rate_0),
