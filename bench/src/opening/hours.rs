@@ -68,22 +68,19 @@ fn runs(counts: &Counts) -> Vec<u32> {
 /// The closed minutes before each of so many windows and behind the last; where they are not stated, they are drawn.
 pub type Gaps = fn(&mut Random, usize) -> Vec<Option<u32>>;
 
-/// Windows anywhere; windows that leave no minute of the week out; and windows that meet, lie a minute apart, or anywhere.
+/// Windows anywhere.
 pub const ANY: Gaps = |_, number| gaps(None, None, number);
+/// No minute of the week is left out.
 pub const ALL_OPEN: Gaps = |_, number| gaps(Some(0), Some(0), number);
+/// Each gap is none, one minute, or any.
 pub const MIXED: Gaps = |random, number| (0..=number).map(|_| random.pick(&[Some(0), Some(1), None])).collect();
+/// Each window meets the next, or ends one minute before it.
+const MEETING: Gaps = |_, number| gaps(None, Some(0), number);
+const APART: Gaps = |_, number| gaps(None, Some(1), number);
+/// The last window meets the first one of the week after.
+const ROUND: Gaps = |_, number| gaps(Some(0), None, number);
 
-/// How windows may lie to each other and to the week's ends: also all meeting, all a minute apart, and, where they are drawn between
-/// the windows, none at the ends.
-pub const KINDS: [Gaps; 7] = [
-    ANY,
-    |_, number| gaps(None, Some(0), number),
-    |_, number| gaps(None, Some(1), number),
-    |_, number| gaps(Some(0), None, number),
-    ALL_OPEN,
-    all_but_one_minute,
-    MIXED,
-];
+pub const KINDS: [Gaps; 7] = [ANY, MEETING, APART, ROUND, ALL_OPEN, all_but_one_minute, MIXED];
 
 /// The same at both of the week's ends, and the same between all windows.
 fn gaps(at_ends: Option<u32>, between: Option<u32>, number: usize) -> Vec<Option<u32>> {
