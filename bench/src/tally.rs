@@ -59,7 +59,7 @@ impl Codes {
     }
 }
 
-/// In how many calls the sides differed.
+/// How often the sides differed.
 #[derive(Default)]
 pub struct Differences(u64);
 

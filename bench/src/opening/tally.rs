@@ -1,13 +1,15 @@
 //! Both sides on the same opening hours, minutes and lengths or entries: how often each code came up, what the calls came upon,
 //! and how often the sides differed.
 use super::hours::{self, Hours, KINDS};
+use super::plain::{self, WEEK};
 use super::situations::Situations;
-use super::{plain, sweeps, Start, LIBRARY, OF_SCHEDULE, PLAIN, PLAIN_OF_SCHEDULE};
+use super::{sweeps, Start, LIBRARY, OF_SCHEDULE, PLAIN, PLAIN_OF_SCHEDULE};
 use crate::sample::Random;
 use crate::tally::{figures, Codes, Differences, Trial, OFTEN};
 use std::rc::Rc;
 
-/// The plain side looks at each minute in one of so many calls, which are drawn, and takes its counts in all of them.
+/// The plain side takes its counts in all calls, and looks at each minute as well in one of so many, which are drawn, and wherever the
+/// start is the last that may be, which is rare.
 const DIRECT: usize = 2000;
 
 /// One of so many hours in the pool is there a second time, with a window made wrong.
@@ -39,7 +41,7 @@ impl Tally {
         let library = LIBRARY(windows, minute, length);
         let counted = plain::report_counted(hours.counts(), minute, length);
         let call = || format!("windows {windows:?} from {minute}, length {length}");
-        self.count([library, counted], || PLAIN(windows, minute, length), call);
+        self.count([library, counted], minute, || PLAIN(windows, minute, length), call);
         self.situations.of_length(hours, minute, length, counted);
     }
 
@@ -60,7 +62,7 @@ impl Tally {
             plain::report_counted(hours.counts(), minute, length)
         });
         let call = || format!("schedule {}, windows {windows:?} from {minute}", figures(entry));
-        self.count([library, counted], || PLAIN_OF_SCHEDULE(entry, windows, minute), call);
+        self.count([library, counted], minute, || PLAIN_OF_SCHEDULE(entry, windows, minute), call);
         match its_length {
             Some(length) => self.situations.of_length(hours, minute, length, counted),
             None => self.situations.of_refused_schedule(hours, minute, counted),
@@ -68,11 +70,12 @@ impl Tally {
     }
 
     /// What both sides gave, the plain one by its counts, and at times what it finds where it looks at each minute.
-    fn count(&mut self, sides: [Start; 2], direct: impl Fn() -> Start, call: impl Fn() -> String) {
+    fn count(&mut self, sides: [Start; 2], minute: u32, direct: impl Fn() -> Start, call: impl Fn() -> String) {
         self.calls += 1;
         self.codes.count(sides[0].code);
         self.differences.count(sides, &call);
-        if self.random.below(DIRECT) == 0 {
+        let is_drawn = self.random.below(DIRECT) == 0;
+        if is_drawn || minute.checked_add(WEEK - 1) == Some(sides[1].start) {
             self.direct += 1;
             self.differences.count([sides[0], direct()], || format!("each minute looked at, {}", call()));
         }
