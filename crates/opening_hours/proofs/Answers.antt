@@ -9,24 +9,10 @@ use borrow.Author.Tests.{ltb-true, ltb-false}
 use Rattle.sha256.proofs.Cases.{by-bool, cases-lt}
 use Rattle.opening_hours.specs.declared.opening.Start.{Start}
 use Rattle.opening_hours.specs.Opening.{week, windowsFit, isOpen, openFor, earliestStart, noStart, opening}
+use Rattle.opening_hours.specs.Starts.{OneClosed, EarliestOpen, NoneOpen}
 use Rattle.opening_hours.proofs.Minutes.{open-week-later, open-in-week, each-minute, stretch-open, one-closed, some-closed}
 use Rattle.opening_hours.proofs.Minutes.{always-open, Earliest, earliest-found}
 use Rattle.opening_hours.proofs.Openings.{at-start, judged, begins-at, none-begins}
-
--- One of so many minutes from a start on is closed.
-abbrev pub OneClosed : List ℕ → ℕ → ℕ → Type 0
-OneClosed ws n v = (t : ℕ) × ((v ≤ t) × ((t < v + n) × (isOpen ws t ≡ false)))
-
--- A start from m to m + 10,079 has all its minutes open, and each earlier one from m on has a closed one.
-pub record EarliestOpen (ws : List ℕ) (m n u : ℕ) : Type 0 where
-  pub from : m ≤ u
-  pub within : u < m + week
-  pub opened : (t : ℕ) → u ≤ t → t < u + n → isOpen ws t ≡ true
-  pub before : (v : ℕ) → m ≤ v → v < u → OneClosed ws n v
-
--- No start from m to m + 10,079 has all its minutes open.
-abbrev pub NoneOpen : List ℕ → ℕ → ℕ → Type 0
-NoneOpen ws m n = (v : ℕ) → m ≤ v → v < m + week → OneClosed ws n v
 
 code-refused : noStart 34 .code ≡ 34
 unfolding noStart

@@ -7,19 +7,10 @@ use native.Mathlib.Omega.{arith}
 use lib.Dec.{leb, ltb}
 use lib.ListN.{length, drop}
 use borrow.Author.Tests.{ltb-true, lt-ltb, leb-true}
-use Rattle.opening_hours.specs.Opening.{week, inOrder, windowsFit}
+use Rattle.opening_hours.specs.Opening.{inOrder, windowsFit}
+use Rattle.opening_hours.specs.Starts.{Fitting}
 use Rattle.opening_hours.proofs.InOrder.{first, end, WindowAt, window-at, order-goes-on, half-window, order-ended, all-in-order}
 use Rattle.opening_hours.proofs.InOrder.{in-order}
-
--- 1 to 32 windows, none of them empty or past the week's end, and each begins at the end of the one before it or later.
-pub record Fitting (ws : List ℕ) : Type 0 where
-  pub count : ℕ
-  pub pairs : length ws ≡ 2 * count
-  pub least : 1 ≤ count
-  pub most : count ≤ 32
-  pub some : (k : ℕ) → k < count → first ws (2 * k) < end ws (2 * k)
-  pub within : (k : ℕ) → k < count → end ws (2 * k) ≤ week
-  pub rising : (k : ℕ) → suc k < count → end ws (2 * k) ≤ first ws (2 * suc k)
 
 -- windows in order have two numbers each
 even-count : (ws : List ℕ) (after : ℕ) → inOrder after ws ≡ true → (c : ℕ) × (length ws ≡ 2 * c)

@@ -1,4 +1,5 @@
--- Document 02's definitions of opening hours, one that inner contracts cite, and computed examples.
+-- Document 02's definitions of opening hours, one that inner contracts cite, words for the laws, and computed examples.
 pub mod Opening
 pub mod Inner
+pub mod Starts
 pub mod Examples

@@ -110,8 +110,8 @@ pub fn earliest(hours: &[u32], minute: u32, length: u32) -> Start
     refused(34)
 }
 
-// The earliest start of a schedule's firing, of which the total time from a kiln at 20 °C is the length; 19 and 26 as in its report, then 33
-// and 34.
+// The earliest start of a schedule's firing, whose length is its total time from a kiln at 20 °C; 19 and 26 as in its report, then 33 and
+// 34.
 pub fn schedule_start(entry: &[u8], hours: &[u32], minute: u32) -> Start
     ensures { λ r. ⌜ r ≡ scheduleOpening (now (entry .entry)) (now (hours .entry)) minute ⌝ }
 {
