@@ -1,26 +1,20 @@
 -- What each answer says, both ways.
 use mathlib.Core.Path.{_≡_, refl, sym, ap, subst, _∙_}
-use mathlib.Core.Bool.{true, false, cond}
+use mathlib.Core.Bool.{true}
 use mathlib.Core.List.{List}
 use Prim.Native.Nat.{ℕ, _+_, _*_, _≤_, _<_}
 use native.Mathlib.Omega.{arith}
-use lib.Dec.{ltb}
-use borrow.Author.Tests.{ltb-true, ltb-false}
-use Rattle.sha256.proofs.Cases.{by-bool, cases-lt}
+use Rattle.sha256.proofs.Cases.{cases-lt}
 use Rattle.opening_hours.specs.declared.opening.Start.{Start}
-use Rattle.opening_hours.specs.Opening.{week, windowsFit, isOpen, openFor, earliestStart, noStart, opening}
-use Rattle.opening_hours.specs.Starts.{OneClosed, EarliestOpen, NoneOpen}
+use Rattle.opening_hours.specs.Opening.{week, windowsFit, isOpen, earliestStart, noStart, opening}
+use Rattle.opening_hours.specs.Starts.{EarliestOpen, NoneOpen}
 use Rattle.opening_hours.proofs.Minutes.{open-week-later, open-in-week, each-minute, stretch-open, one-closed, some-closed}
 use Rattle.opening_hours.proofs.Minutes.{always-open, Earliest, earliest-found}
-use Rattle.opening_hours.proofs.Openings.{at-start, judged, begins-at, none-begins}
+use Rattle.opening_hours.proofs.Openings.{at-start, either, begins-at, begins-at-once, none-begins}
 
 code-refused : noStart 34 .code ≡ 34
 unfolding noStart
 code-refused = refl
-
-module _ (ws : List ℕ) (n : ℕ) where
-  closed-stretch : (v : ℕ) → OneClosed ws n v → openFor ws n v ≡ false
-  closed-stretch v c = one-closed ws n v (c .0) (c .1 .0) (c .1 .1 .0) (c .1 .1 .1)
 
 -- Windows that are open through a week are always open. It begins in the first two weeks here.
 open-round : (ws : List ℕ) (u : ℕ) → u < 2 * week → ((t : ℕ) → u ≤ t → t < u + week → isOpen ws t ≡ true) → (t : ℕ) → isOpen ws t ≡ true
@@ -42,15 +36,11 @@ module _ (ws : List ℕ) (m n : ℕ) (minute : m < week) (fit : windowsFit ws �
   -- code 0, exactly with the earliest start all of whose minutes are open
   pub start-answered : opening ws m n .code ≡ 0 → EarliestOpen ws m n (opening ws m n .start)
   start-answered e =
-      by-bool
-      (λ b. ltb (earliestStart ws m n) (m + week) ≡ b → opening ws m n ≡ cond b (at-start (earliestStart ws m n)) (noStart 34)
-      → EarliestOpen ws m n (opening ws m n .start))
-      (ltb (earliestStart ws m n) (m + week))
-      (λ q l is. subst (EarliestOpen ws m n) (sym (ap (λ (s : Start). s .start) is)) (open-from (ltb-true _ _ l)))
-      (λ q l is.
+      either ws m n minute fit
+      (λ l is. subst (EarliestOpen ws m n) (sym (ap (λ (s : Start). s .start) is)) (open-from l))
+      (λ l is.
       let other = ap (λ (s : Start). s .code) is in
       absurd (omega (arith, code-refused)))
-      refl (judged ws m n minute fit)
     where
       open-from : earliestStart ws m n < m + week → EarliestOpen ws m n (earliestStart ws m n)
       open-from h =
@@ -64,29 +54,23 @@ module _ (ws : List ℕ) (m n : ℕ) (minute : m < week) (fit : windowsFit ws �
   pub answered-start : (u : ℕ) → EarliestOpen ws m n u → opening ws m n ≡ at-start u
   answered-start u a =
       begins-at ws m n minute fit u (a .from) (a .within) (stretch-open ws n u (a .opened))
-      (λ v c d. closed-stretch ws n v (a .before v c d))
+      (λ v c d. one-closed ws n v (a .before v c d))
 
   -- code 34, exactly if there is none
   pub none-open : opening ws m n .code ≡ 34 → NoneOpen ws m n
   none-open e v a b =
-      by-bool
-      (λ b. ltb (earliestStart ws m n) (m + week) ≡ b → opening ws m n ≡ cond b (at-start (earliestStart ws m n)) (noStart 34)
-      → OneClosed ws n v)
-      (ltb (earliestStart ws m n) (m + week))
-      (λ q l is.
+      either ws m n minute fit
+      (λ l is.
       let zero : opening ws m n .code ≡ 0 = ap (λ (s : Start). s .code) is in
       absurd (omega arith))
-      (λ q l is. some-closed ws n v (found .before v a (omega (arith, ltb-false (earliestStart ws m n) (m + week) l))))
-      refl (judged ws m n minute fit)
+      (λ l is. some-closed ws n v (found .before v a (omega arith)))
 
   pub open-none : NoneOpen ws m n → opening ws m n ≡ noStart 34
-  open-none none = none-begins ws m n minute fit (λ v a b. closed-stretch ws n v (none v a b))
+  open-none none = none-begins ws m n minute fit (λ v a b. one-closed ws n v (none v a b))
 
   -- A length of a week or more begins at once or not at all: at m, exactly where every minute of the week is open.
   pub whole-week : ((t : ℕ) → isOpen ws t ≡ true) → opening ws m n ≡ at-start m
-  whole-week always =
-      answered-start m
-      (record { from = omega arith; within = omega arith; opened = λ t a b. always t; before = λ v a b. absurd (omega arith) })
+  whole-week always = begins-at-once ws m n minute fit (stretch-open ws n m (λ t a b. always t))
 
   pub week-or-more : week ≤ n → opening ws m n .code ≡ 0 → (opening ws m n .start ≡ m) × ((t : ℕ) → isOpen ws t ≡ true)
   week-or-more long e =
@@ -96,6 +80,4 @@ module _ (ws : List ℕ) (m n : ℕ) (minute : m < week) (fit : windowsFit ws �
 
 -- A length of 0 begins at m.
 pub no-length : (ws : List ℕ) (m : ℕ) → m < week → windowsFit ws ≡ true → opening ws m 0 ≡ at-start m
-no-length ws m minute fit =
-    answered-start ws m 0 minute fit m
-    (record { from = omega arith; within = omega arith; opened = λ t a b. absurd (omega arith); before = λ v a b. absurd (omega arith) })
+no-length ws m minute fit = begins-at-once ws m 0 minute fit (stretch-open ws 0 m (λ t a b. absurd (omega arith)))

@@ -7,6 +7,7 @@ use native.Mathlib.Omega.{arith}
 use native.Mathlib.Nat.{mod-lt, mod-eq-of-lt, add-mod-left}
 use Rattle.sha256.proofs.Cases.{by-bool, cases-lt}
 use Rattle.opening_hours.specs.Opening.{week, inWindows, isOpen, openFor, earliest}
+use Rattle.opening_hours.specs.Starts.{OneClosed}
 
 module _ (ws : List ℕ) where
   -- a minute of the first week, and one a week later
@@ -42,21 +43,20 @@ module _ (ws : List ℕ) where
       rw (h s (omega arith) (omega arith)) (stretch-open n (suc s) (λ t a b. h t (omega arith) (omega arith)))
 
   -- It is not open exactly if one minute of it is closed.
-  pub one-closed : (n s t : ℕ) → s ≤ t → t < s + n → isOpen ws t ≡ false → openFor ws n s ≡ false
-  one-closed n s t a b e =
+  pub one-closed : (n s : ℕ) → OneClosed ws n s → openFor ws n s ≡ false
+  one-closed n s (t, (a, (b, e))) =
       by-bool (λ v. v ≡ false) (openFor ws n s) (λ q. sym (each-minute n s q t a b) ∙ e) (λ q. refl)
 
-  pub some-closed : (n s : ℕ) → openFor ws n s ≡ false → (t : ℕ) × ((s ≤ t) × ((t < s + n) × (isOpen ws t ≡ false)))
+  pub some-closed : (n s : ℕ) → openFor ws n s ≡ false → OneClosed ws n s
   unfolding openFor
   some-closed zero s e = absurd (false≢true (sym e))
   some-closed (suc n) s e =
-      by-bool (λ v. v && openFor ws n (suc s) ≡ false → isOpen ws s ≡ v → (t : ℕ) × ((s ≤ t) × ((t < s + suc n) × (isOpen ws t ≡ false))))
-      (isOpen ws s)
-      (λ q f g.
+      by-bool (λ v. v && openFor ws n (suc s) ≡ false → OneClosed ws (suc n) s) (isOpen ws s)
+      (λ q f.
       let r = some-closed n (suc s) f in
       (r .0, (omega (arith, r .1 .0), (omega (arith, r .1 .1 .0), r .1 .1 .1))))
-      (λ q f g. (s, (omega arith, (omega arith, q))))
-      e refl
+      (λ q f. (s, (omega arith, (omega arith, q))))
+      e
 
   -- a stretch a week later
   pub stretch-week-later : (n s : ℕ) → openFor ws n (week + s) ≡ openFor ws n s

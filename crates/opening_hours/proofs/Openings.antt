@@ -1,4 +1,4 @@
--- The earliest start: each of its answers by what holds then, and what each answer says.
+-- The earliest start: each of its answers by what holds then.
 use mathlib.Core.Path.{_≡_, refl, _∙_}
 use mathlib.Core.Bool.{true, false, cond, _&&_}
 use mathlib.Core.List.{List}
@@ -34,13 +34,21 @@ module _ (ws : List ℕ) (m n : ℕ) where
 
     module _ (fit : windowsFit ws ≡ true) where
       -- what the earliest start decides
-      pub judged : opening ws m n ≡ cond (ltb (earliestStart ws m n) (m + week)) (at-start (earliestStart ws m n)) (noStart 34)
+      judged : opening ws m n ≡ cond (ltb (earliestStart ws m n) (m + week)) (at-start (earliestStart ws m n)) (noStart 34)
       unfolding opening openingCode
       judged =
           rw (lt-ltb m week minute, fit) (by-bool
           (λ b. cond (eqb (cond b 0 34) 0) (at-start (earliestStart ws m n)) (noStart (cond b 0 34))
           ≡ cond b (at-start (earliestStart ws m n)) (noStart 34))
           (ltb (earliestStart ws m n) (m + week)) (λ _. refl) (λ _. refl))
+
+      pub either : {C : Type 0}
+          → (earliestStart ws m n < m + week → opening ws m n ≡ at-start (earliestStart ws m n) → C)
+          → (m + week ≤ earliestStart ws m n → opening ws m n ≡ noStart 34 → C) → C
+      either found none =
+          cases-lt (earliestStart ws m n) (m + week)
+          (λ l. found l (judged ∙ rw (lt-ltb (earliestStart ws m n) (m + week) l)))
+          (λ l. none l (judged ∙ rw (le-ltb (earliestStart ws m n) (m + week) l)))
 
       pub begins-at : (u : ℕ) → m ≤ u → u < m + week → openFor ws n u ≡ true
           → ((v : ℕ) → m ≤ v → v < u → openFor ws n v ≡ false) → opening ws m n ≡ at-start u
@@ -51,12 +59,15 @@ module _ (ws : List ℕ) (m n : ℕ) where
       unfolding earliestStart
       none-begins none = judged ∙ rw (earliest-none ws n week m none, le-ltb (m + week) (m + week) (omega arith))
 
+      pub begins-at-once : openFor ws n m ≡ true → opening ws m n ≡ at-start m
+      begins-at-once e = begins-at m (omega arith) (omega arith) e (λ v a b. absurd (omega arith))
+
       -- windows that cover the week
       pub week-covered : firstClosed 0 ws ≡ week → opening ws m n ≡ at-start m
       week-covered e =
           let known = closed-is ws 0 (omega arith) (in-order ws fit) in
           let always = always-open ws (λ t h. known .opened t (omega arith) (omega arith)) in
-          begins-at m (omega arith) (omega arith) (stretch-open ws n m (λ t a b. always t)) (λ v a b. absurd (omega arith))
+          begins-at-once (stretch-open ws n m (λ t a b. always t))
 
       -- from the minute to the week's end, and then from the next week's beginning
       module _ (here : ℕ) (is : here ≡ earliest ws n m (week - m)) where

@@ -55,8 +55,8 @@ module _ (ws : List ℕ) (minute minutes : ℕ) where
         (λ l. s .tried v c l)
         (λ l.
         cases-lt shut v
-        (λ m. one-closed ws minutes v v (omega arith) (omega (arith, s .order)) (later v m d))
-        (λ m. one-closed ws minutes v shut m (omega arith) e))
+        (λ m. one-closed ws minutes v (v, (omega arith, (omega (arith, s .order), later v m d))))
+        (λ m. one-closed ws minutes v (shut, (m, (omega arith, e)))))
 
     -- what is open from `start` on is the answer
     pub starts-here : (n : ℕ) → minutes ≤ n → ((t : ℕ) → start ≤ t → t < start + n → isOpen ws t ≡ true)

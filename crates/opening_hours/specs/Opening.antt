@@ -56,6 +56,7 @@ openingCode windows m minutes =
 unfoldable pub noStart : ℕ → Start
 noStart code = record { code = code; start = 0 }
 
+-- "answer the earliest start": the code, and where it is 0 the start.
 unfoldable pub opening : List ℕ → ℕ → ℕ → Start
 opening windows m minutes =
     cond (eqb (openingCode windows m minutes) 0)
