@@ -1,0 +1,2 @@
+-- laws of slots
+pub mod Slots

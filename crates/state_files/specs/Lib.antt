@@ -1,0 +1,3 @@
+-- Slots of a state file, and the file of a server.
+pub mod Slot
+pub mod Server
