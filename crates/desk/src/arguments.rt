@@ -1,4 +1,5 @@
 // The program's arguments: `new` where a log begins, the folder, N, the own number, the log's name, and the file of the users' public keys.
+ghost use Prim.Native.Nat.{_≤_};
 use sha256::bytes;
 
 // What a desk serves: N, the own number and the log's name, filled up with zeros. A number that is misshapen is 0, as is the length of a
@@ -18,6 +19,16 @@ pub fn begins() -> bool {
     bytes::same(bytes::front(text, n), b"new")
 }
 
+// Which argument is the folder.
+pub fn folder_at(new: bool) -> usize
+    ensures { λ r. ⌜ r ≤ 2 ⌝ }
+{
+    if new {
+        return 2;
+    }
+    1
+}
+
 // The number that an argument is.
 fn number(i: usize) -> u32 {
     let mut room = [0u8; 16];
@@ -28,7 +39,7 @@ fn number(i: usize) -> u32 {
 }
 
 // What is served, from argument i on.
-pub fn desk(i: usize) -> Desk {
+pub fn served(i: usize) -> Desk {
     let mut log = [0u8; 16];
     let name = os::arg(i % 16 + 2, &mut log);
     Desk {

@@ -22,7 +22,8 @@ fn zeros() -> [u8; 4194304]
 }
 
 fn main() {
-    let first = if arguments::begins() { 2 } else { 1 };
+    let new = arguments::begins();
+    let first = arguments::folder_at(new);
     let mut room = io::buffer();
     let text: &mut [u8] = &mut room;
     let n = os::arg(first, text);
@@ -30,12 +31,14 @@ fn main() {
     let keys: &mut [u8] = &mut list;
     let u = arguments::load(first + 4, keys);
     let users = bytes::front(keys, u);
-    let d = arguments::desk(first + 1);
+    let d = arguments::served(first + 1);
     if os::arg_count() != first + 5 || !arguments::fits(d, users) {
-        report::line(b"usage: desk [new] FOLDER N OWN NAME USERS, with N from 2 to 16, OWN from 1 to N, NAME of 1 to 16 bytes, USERS a file of 1 to 64 public keys");
+        report::line(
+            b"usage: desk [new] FOLDER N OWN NAME USERS, with N from 2 to 16, OWN from 1 to N, NAME of 1 to 16 bytes, USERS a file of 1 to 64 public keys",
+        );
         return;
     }
-    serve_locked(d, first == 2, bytes::front(text, n), users);
+    serve_locked(d, new, bytes::front(text, n), users);
 }
 
 // Serves the log of a folder while its lock is held.
@@ -43,7 +46,8 @@ fn serve_locked(d: Desk, new: bool, folder: &[u8], users: &[u8]) {
     if !lock::take(folder) {
         return;
     }
-    let mark = setup::hash((d.servers % 256) as u8, (d.own % 256) as u8, d.log, users);
+    let name = d.log;
+    let mark = setup::hash((d.servers % 256) as u8, (d.own % 256) as u8, name, users);
     if !new || log::begin(folder, mark) {
         serve_folder(d, mark, folder, users);
     }

@@ -20,7 +20,11 @@ pub fn receive(fd: i32, message: &mut [u8]) -> Frame {
         return Frame::Cut;
     }
     let n = bytes::u16_at(length, 0) as usize;
-    if fill(fd, message, n) { Frame::Whole(n) } else { Frame::Cut }
+    if fill(fd, message, n) {
+        Frame::Whole(n)
+    } else {
+        Frame::Cut
+    }
 }
 
 // Reads n bytes to the front of the buffer, and answers whether all came.

@@ -62,11 +62,15 @@ pub fn take(folder: &[u8]) -> bool {
         return true;
     }
     if !is_left_behind(folder) {
-        report::line(b"the folder's lock names a process that lives, or the folder cannot be written; see OPERATING, Lock");
+        report::line(
+            b"the folder's lock names a process that lives, or the folder cannot be written; see OPERATING, Lock",
+        );
         return false;
     }
     if !make(folder, b"lock.taking") {
-        report::line(b"another process takes the lock over, or was killed while it did; see OPERATING, Lock");
+        report::line(
+            b"another process takes the lock over, or was killed while it did; see OPERATING, Lock",
+        );
         return false;
     }
     let taken = replace(folder);
