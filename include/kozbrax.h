@@ -2,7 +2,9 @@
 
    A slice is passed as a pointer and then its length, in bytes where nothing else is said. The caller sees to it that no pointer is
    NULL, also where the length is 0, that it reaches as many bytes as the length says, that a buffer which is written overlaps no other
-   argument, and that nothing else writes what is lent during the call. No function keeps a pointer or allocates. */
+   argument, and that nothing else writes what is lent during the call. No function keeps a pointer or allocates.
+
+   What a caller has to save, and when, stands under 'Custody' below. A key that signs twice under one number can be forged. */
 #ifndef KOZBRAX_H
 #define KOZBRAX_H
 
@@ -13,56 +15,154 @@
 extern "C" {
 #endif
 
+/* Lengths in bytes. */
+#define KOZBRAX_HASH 32        /* a SHA-256, leaf, node or digest */
+#define KOZBRAX_SEED 32        /* of a key: the secret that its secret strings come from */
+#define KOZBRAX_ID 16          /* of a key: its identifier, the RFC's I */
+#define KOZBRAX_TREE 65504     /* of a key: its tree, 2,047 nodes */
+#define KOZBRAX_PUBLIC_KEY 56
+#define KOZBRAX_RANDOMIZER 32
+#define KOZBRAX_SIGNATURE 2508
+#define KOZBRAX_LOG_NAME 16
+#define KOZBRAX_HEAD 39        /* a server's head */
+#define KOZBRAX_RECORD 2552    /* the longest record that one request adds to a server's store */
+#define KOZBRAX_REQUEST 2566   /* the longest request of a user, and the least length of a buffer for it */
+#define KOZBRAX_ANSWER 2552    /* the longest answer of a server, and the least length of a buffer for it */
+#define KOZBRAX_ENTRY 1024     /* the longest entry, and the least length of a buffer for one that is read */
+#define KOZBRAX_STRIKE 5       /* an entry that strikes */
+#define KOZBRAX_KEPT 42        /* kept, path and signature: a user's between calls */
+#define KOZBRAX_PATH 672
+#define KOZBRAX_CALL 82        /* call, hashes and held: a user's during a call */
+#define KOZBRAX_HASHES 1248
+#define KOZBRAX_HELD 1026
+#define KOZBRAX_NODE 5         /* a node of a cover: p and l */
+
+/* Ranges. */
+#define KOZBRAX_LEAST_SERVERS 2
+#define KOZBRAX_MOST_SERVERS 16
+#define KOZBRAX_MOST_USERS 64
+#define KOZBRAX_GREATEST_POSITION 1048576
+#define KOZBRAX_SIGNATURES 1024       /* of one key, numbered 0 to 1,023 */
+#define KOZBRAX_MOST_SEGMENTS 16      /* of a firing schedule */
+#define KOZBRAX_WEEK 10080            /* minutes */
+#define KOZBRAX_MOST_WINDOWS 32       /* of opening hours */
+
+/* 'None', from a function that returns a number of the log and no code. */
+#define KOZBRAX_NONE 4294967295u
+
+/* The codes that the functions return, and a server's answers hold. */
+enum kozbrax_code {
+  KOZBRAX_OK = 0,                     /* accepted, found, done */
+
+  /* A server's, in an answer too. */
+  KOZBRAX_BAD_REQUEST = 1,            /* mark, kind, length, position, level or author are no request's */
+  KOZBRAX_OTHER_LOG = 2,              /* the request names another log */
+  KOZBRAX_OTHER_OWNER = 3,            /* the node is owned by another server */
+  KOZBRAX_POSITION_TAKEN = 4,         /* Reserve: the position is below the head's, or held by another author or digest */
+  KOZBRAX_NOT_RESERVED = 5,           /* put or Commit: not the head's position and author */
+  KOZBRAX_STORED_OTHERWISE = 6,       /* put or Commit: other bytes are stored for this node and kind */
+  KOZBRAX_BAD_COMMIT = 7,             /* the digest is not the reserved one, or the signature fails */
+  KOZBRAX_NOT_STORED = 8,             /* nothing is stored that could be answered */
+  KOZBRAX_STORE_FULL = 9,             /* the new record is longer than the free part of the store */
+
+  /* A user's; 17, 19, 21, 22, 24 and 26 of other functions too. */
+  KOZBRAX_BAD_ANSWER = 10,            /* no answer to the request that is out */
+  KOZBRAX_SERVER_REFUSED = 11,        /* the server refused, with the code in `refusal` */
+  KOZBRAX_LABELS_APART = 12,          /* the greatest and the least label are `servers` or more apart */
+  KOZBRAX_SERVERS_BEHIND = 13,        /* the servers' greatest position is below the user's version */
+  KOZBRAX_BAD_RECORD = 14,            /* the Record's author is not listed, or its signature fails */
+  KOZBRAX_OWN_DIGEST_DIFFERS = 15,    /* the cover does not give the user's own digest */
+  KOZBRAX_RECORD_DIGEST_DIFFERS = 16, /* the cover does not give the Record's digest */
+  KOZBRAX_KEY_SPENT = 17,             /* the signature number is 1,024 */
+  KOZBRAX_WRITE_OPEN = 18,            /* a write is open: it comes first */
+  KOZBRAX_BAD_ENTRY = 19,             /* the entry's length, first byte, strike length or strike target */
+  KOZBRAX_LOG_FULL = 20,              /* the position would be above 1,048,576 */
+  KOZBRAX_BUFFER_SHORT = 21,          /* a lent buffer is too short, or the board's two lists differ in length */
+  KOZBRAX_BAD_STATE = 22,             /* settings, kept state, head or store are out of range or not whole */
+  KOZBRAX_READ_DIFFERS = 23,          /* what was read does not give the user's own digest */
+  KOZBRAX_BAD_POSITION = 24,          /* the position is not 1 to the version; of a digest: the leaves' length */
+  KOZBRAX_BAD_SCHEDULE = 26,          /* no firing schedule, or one against the rules */
+
+  /* Those of the reports on firing schedules. */
+  KOZBRAX_BAD_STARTS = 32,            /* the range of start temperatures, or a start that the first rate does not fit */
+  KOZBRAX_BAD_HOURS = 33,             /* the opening hours or the minute */
+  KOZBRAX_NO_START = 34               /* no start has all its minutes within the opening hours */
+};
+
+/* Custody: what has to be on stable storage, and when. To have written it is not enough: the storage must have confirmed that it stays
+   there when power fails, as fsync does.
+
+   A user's kept, path and signature, where a step changed them, before the request that this step handed out is sent, and before the end
+   of a call is reported. The danger is in the step of a Write that signs: it hands out the Commit. If that is sent first and power fails
+   before kept, path and signature are saved, the resumed write signs again under the same number. A key that signs two texts under one
+   number, or one text with two randomizers, can be forged. A refused step and the start of a call change nothing of the three.
+   call, hashes and held need not be saved: a call that was cut is started anew, an open write by kozbrax_write_start with the same
+   entry. So the entry of a Write is saved by the caller too, before the first Reserve is sent: no other entry can be written while it is
+   open.
+
+   A server's head, the used part of its store and `used`, where a call changed them, before the answer leaves.
+
+   One process at a time on one state, a user's or a server's, and one state for one key: kept counts the key's numbers, so a key that
+   signs in two logs, or by kozbrax_lms_sign beside its Writes, needs one count for all.
+   A user's state that was lost, or restored from an older copy, means a new key: nobody knows which numbers are used. A server whose state
+   was lost, or restored from an older copy, no longer follows the rules: it may deny what it has answered. */
+
 /* The SHA-256 (FIPS 180-4) of the message, into the first 32 bytes of out.
-   Returns 0, or 21 where out_len is below 32.
+   Returns 0, or 21 where out_len is below KOZBRAX_HASH, 32.
    Leaves, on 0: the hash in the first 32 bytes of out, and the bytes past them as they were. On 21: out as it was. */
 uint32_t kozbrax_sha256(const uint8_t *message, size_t message_len, uint8_t *out, size_t out_len);
 
 /* The tree of an LMS key (RFC 8554, LMS_SHA256_M32_H10 with LMOTS_SHA256_N32_W4): nodes 1 to 2,047 in order, 32 bytes each.
-   seed has 32 bytes and id 16. Returns 0, or 21 where tree_len is below 65,504.
-   Leaves, on 0: the nodes in the first 65,504 bytes, and the bytes past them as they were. On 21: tree as it was. */
+   seed has 32 bytes and id 16. Returns 0, or 21 where tree_len is below KOZBRAX_TREE, 65,504.
+   Leaves, on 0: the nodes in the first 65,504 bytes, and the bytes past them as they were. On 21: tree as it was.
+   Custody: seed and id are saved before the public key is given away, and the seed is secret. They give the same tree at any time. */
 uint32_t kozbrax_lms_generate(const uint8_t *seed, const uint8_t *id, uint8_t *tree, size_t tree_len);
 
 /* The RFC's public key of 56 bytes, from id (16 bytes) and the key's tree.
-   Returns 0, or 21 where tree_len is below 65,504 or key_len below 56.
+   Returns 0, or 21 where tree_len is below KOZBRAX_TREE or key_len below KOZBRAX_PUBLIC_KEY, 56.
    Leaves, on 0: the public key in the first 56 bytes of key, and the bytes past them as they were. On 21: key as it was. */
 uint32_t kozbrax_lms_public_key(const uint8_t *id, const uint8_t *tree, size_t tree_len, uint8_t *key, size_t key_len);
 
 /* The RFC's signature of a text, 2,508 bytes. seed has 32 bytes, id 16 and randomizer 32; each number is to be used once.
-   Returns 0; 21 where tree_len is below 65,504 or signature_len below 2,508; else 17 where number is 1,024 or more.
-   Leaves, on 0: the signature in the first 2,508 bytes, and the bytes past them as they were. Else: signature as it was. */
+   Returns 0; 21 where tree_len is below KOZBRAX_TREE or signature_len below KOZBRAX_SIGNATURE; else 17 where number is 1,024 or more.
+   Leaves, on 0: the signature in the first 2,508 bytes, and the bytes past them as they were. Else: signature as it was.
+   Custody: that the number is used is saved before the signature is handed out. A user's Write signs by itself and does not need this
+   function. */
 uint32_t kozbrax_lms_sign(const uint8_t *seed, const uint8_t *id, uint32_t number, const uint8_t *randomizer,
                           const uint8_t *text, size_t text_len, const uint8_t *tree, size_t tree_len,
                           uint8_t *signature, size_t signature_len);
 
 /* Whether a signature of a text is valid under a public key, all of any length.
-   Returns the number that the signature was made with, or 4294967295 where the RFC says INVALID. Writes nothing. */
+   Returns the number that the signature was made with, or KOZBRAX_NONE, 4294967295, where the RFC says INVALID. Writes nothing.
+   0 is a valid number, that of a key's first signature, and no error; and every number but KOZBRAX_NONE says that the signature is
+   valid. So `if (kozbrax_lms_check(...))` and a comparison with KOZBRAX_OK are both wrong: compare with KOZBRAX_NONE. */
 uint32_t kozbrax_lms_check(const uint8_t *key, size_t key_len, const uint8_t *text, size_t text_len,
                            const uint8_t *signature, size_t signature_len);
 
-/* The first label of position p's path. Returns 4294967295 where p is not 1 to 1,048,576. Up to 1,024 it is looked up in a table,
+/* The first label of position p's path. Returns KOZBRAX_NONE where p is not 1 to 1,048,576. Up to 1,024 it is looked up in a table,
    which is copied to the stack for that: 4,112 bytes. */
 uint32_t kozbrax_first_label(uint32_t p);
 
 /* The server, of `servers`, that owns node (p, l).
-   Returns 4294967295 where `servers` is not 2 to 16, p not 1 to 1,048,576, or l above the level of p. */
+   Returns KOZBRAX_NONE where `servers` is not 2 to 16, p not 1 to 1,048,576, or l above the level of p. */
 uint32_t kozbrax_owner(uint32_t servers, uint32_t p, uint32_t l);
 
 /* The wait Q(p, N) with N = servers: how many operations after p until every server owns a node of the paths from p on.
-   Returns 4294967295 where `servers` is not 2 to 16 or p not 1 to 1,048,576. */
+   Returns KOZBRAX_NONE where `servers` is not 2 to 16 or p not 1 to 1,048,576. */
 uint32_t kozbrax_wait(uint32_t servers, uint32_t p);
 
 /* The nodes of the cover from v to w, v from 0 and w from max(v, 1) to 1,048,576: each as p (4 bytes, big-endian) and l (1 byte).
-   Returns the count of nodes, or 4294967295 where v and w are out of range or nodes_len is below 5 bytes a node: 21 is also a count.
+   Returns the count of nodes, or KOZBRAX_NONE where v and w are out of range or nodes_len is below 5 bytes (KOZBRAX_NODE) a node: 21
+   is also a count.
    Leaves, where it returns a count: the nodes in the first bytes, and the bytes past them as they were. Else: nodes as it was. */
 uint32_t kozbrax_cover(uint32_t v, uint32_t w, uint8_t *nodes, size_t nodes_len);
 
-/* The leaf of an entry, into the first 32 bytes of out. Returns 0, or 21 where out_len is below 32.
+/* The leaf of an entry, into the first 32 bytes of out. Returns 0, or 21 where out_len is below KOZBRAX_HASH.
    Leaves out as kozbrax_sha256 does. */
 uint32_t kozbrax_leaf(uint16_t author, const uint8_t *entry, size_t entry_len, uint8_t *out, size_t out_len);
 
 /* The digest of 1 to 1,048,576 leaves of 32 bytes each, into the first 32 bytes of out.
-   Returns 0, 21 where out_len is below 32, or else 24 where leaves_len is not 32 to 33,554,432 in steps of 32.
+   Returns 0, 21 where out_len is below KOZBRAX_HASH, or else 24 where leaves_len is not 32 to 33,554,432 in steps of 32.
    Leaves, on 0: the digest in the first 32 bytes of out, and the bytes past them as they were. Else: out as it was. */
 uint32_t kozbrax_digest(const uint8_t *leaves, size_t leaves_len, uint8_t *out, size_t out_len);
 
@@ -102,8 +202,8 @@ typedef struct {
 /* The least and the greatest total time of the firing that an entry of any bytes holds, where the kiln starts at some whole temperature
    from `from` to `to` degrees Celsius, both of them included, instead of 20. Each of the two is the total from some start in the range.
    Returns the code: 19 or 26 where kozbrax_schedule does, which still judges from 20; else 32 where `from` is above `to`, one of them is
-   above 1,350, or the first rate, for a start in the range, has not the sign of the first target minus the start, 0 exactly where these are
-   equal; else 0. Writes nothing. */
+   above 1,350, or the first rate, for a start in the range, has not the sign of the first target minus the start, 0 exactly where these
+   are equal; else 0. Writes nothing. */
 kozbrax_totals kozbrax_schedule_warm(const uint8_t *entry, size_t entry_len, uint32_t from, uint32_t to);
 
 /* When a firing may begin: the code, and where it is 0 the start; that is 0 where it is not. */
@@ -112,12 +212,12 @@ typedef struct {
   uint32_t start;
 } kozbrax_start;
 
-/* The earliest start of a firing of `length` minutes, any number, within opening hours. A week has 10,080 minutes from Monday 0:00. windows
-   has the first minute and the end of each window, one window behind the other, the end not belonging to it; windows_len counts numbers,
-   two for each window. A window may end at 10,080, and two may meet: a firing goes on from the one into the other, and from the week's end
-   into the next week.
-   A start is a number from `minute` to minute + 10,079, counted on past the week's end: 10,080 is Monday 0:00 of the week after. With length
-   0 it is `minute`; with 10,080 or more, `minute` where the windows cover the whole week, and else there is none.
+/* The earliest start of a firing of `length` minutes, any number, within opening hours. A week has 10,080 minutes from Monday 0:00.
+   windows has the first minute and the end of each window, one window behind the other, the end not belonging to it; windows_len counts
+   numbers, two for each window. A window may end at 10,080, and two may meet: a firing goes on from the one into the other, and from the
+   week's end into the next week.
+   A start is a number from `minute` to minute + 10,079, counted on past the week's end: 10,080 is Monday 0:00 of the week after. With
+   length 0 it is `minute`; with 10,080 or more, `minute` where the windows cover the whole week, and else there is none.
    Returns the code: 33 where minute is not 0 to 10,079, windows_len not 2 to 64 or odd, or a window is empty, ends after 10,080 or begins
    before the end of the one before it; else 34 where no start has all its minutes in windows; else 0. Writes nothing. */
 kozbrax_start kozbrax_opening(const uint32_t *windows, size_t windows_len, uint32_t minute, uint32_t length);
@@ -135,37 +235,51 @@ typedef struct {
 } kozbrax_served;
 
 /* One call of server own, of `servers`: takes in a request of any bytes. log has 16 bytes; users are the public keys, 56 bytes each.
-   head has 39 bytes, big-endian: p (4 bytes at 0), l (1 at 4), author (2 at 5), digest (32 at 7); all zero at first. The first `used`
-   bytes of store are its records; at first there are none. The caller keeps head, store and `used` from call to call.
+   head has KOZBRAX_HEAD, 39, bytes, big-endian: p (4 bytes at 0), l (1 at 4), author (2 at 5), digest (32 at 7); all zero at first. The
+   first `used` bytes of store are its records; at first there are none. The caller keeps head, store and `used` from call to call.
    Returns the code: 22 where `servers` is not 2 to 16, own not 1 to `servers`, users_len not 56 to 3,584 in steps of 56, the head out
-   of range, `used` above store_len or the used part not whole stored records; else 21 where answer_len is below 2,552; else 0 to 9, as
-   the answer says.
+   of range, `used` above store_len or the used part not whole stored records; else 21 where answer_len is below KOZBRAX_ANSWER,
+   2,552; else 0 to 9, as the answer says.
    Leaves, on 0: the request's effect on head or on store and `used`, and the answer in the first bytes. On 1 to 9: the answer, and head
-   and store as they were. On 21 and 22: everything as it was. The bytes past the answer, and past the used part, stay as they were. */
+   and store as they were. On 21 and 22: everything as it was. The bytes past the answer, and past the used part, stay as they were.
+   Custody: on 0, where head or `used` has changed, head, the used part of store and `used` are on stable storage before the answer
+   leaves. A call adds one record of at most KOZBRAX_RECORD bytes behind the used part, or changes the head, or neither; it never changes
+   a record. On any other code there is nothing to save. Where saving fails the answer must not leave, and the server starts again from
+   what was saved. */
 kozbrax_served kozbrax_server(uint32_t servers, uint32_t own, const uint8_t *log, const uint8_t *users, size_t users_len, uint8_t *head,
                               uint8_t *store, size_t store_len, uint64_t used, const uint8_t *request, size_t request_len,
                               uint8_t *answer, size_t answer_len);
 
 /* A user. What it keeps, and the call that goes on, are lent bytes, big-endian, that the caller keeps from call to call:
 
-   kept, 42 bytes, all zero for a new user:
+   kept, KOZBRAX_KEPT (42) bytes, all zero for a new user:
      version (4 bytes at 0), digest (32 at 4), next signature number (4 at 36), opened (1 at 40), signed (1 at 41); the last two are 1 or 0
-   path (672 bytes) and signature (2,508): of an open write
-   call, 82 bytes; the bytes that a kind does not name keep their contents:
+   path, KOZBRAX_PATH (672) bytes, and signature, KOZBRAX_SIGNATURE (2,508): of an open write
+   call, KOZBRAX_CALL (82) bytes; the bytes that a kind does not name keep their contents:
      kind (1 at 0): 1 Update, 2 Write, 3 Read
      Update and Write: asked (1 at 1), greatest (4 at 2), least (4 at 6), position (4 at 10), digest (32 at 14)
      Write as well: opened (1 at 46), asked (1 at 47), randomizer (32 at 48), length (2 at 80)
      Read: position (4 at 1), asked (1 at 5), length (2 at 6)
-   hashes (1,248 bytes) and held (1,026): the call's memory, with any contents at its start
+   hashes, KOZBRAX_HASHES (1,248) bytes, and held, KOZBRAX_HELD (1,026): the call's memory, with any contents at its start
 
    log has 16 bytes; users are the users' public keys, 56 bytes each. own is the user's number, from 1. Every function returns 22 where
    `servers` is not 2 to 16, users_len not 56 to 3,584 in steps of 56, own not a number of the users, or what is kept out of range: the
-   version above 1,048,576, or equal to it with a write open, the signature number above 1,024, opened or signed above 1. */
+   version above 1,048,576, or equal to it with a write open, the signature number above 1,024, opened or signed above 1.
+
+   A call goes so: a start hands out the first request and names the server that it goes to; each answer is given to kozbrax_take, which
+   hands out the next request, until the call has ended.
+
+   A refused answer changes nothing, and the same call may take another answer to the same request, which may have to be sent again. So an
+   answer that the line has damaged need not end the call. The request buffer still holds the request where the caller has not used it
+   otherwise.
+
+   Custody, as said above: kept, path and signature are on stable storage before each request that a start or kozbrax_take hands out is
+   sent, and before the end of a call is reported; where a step has not changed them they are there already. */
 
 /* What a start, or an answer taken in, gives: the code; the server's code for 11, else 0; the server to ask and the length of the
    request in the request buffer, 0 where the call has ended; ended, 1 where the call has ended and else 0; and the author and the
    entry's length of a Read that has ended with 0, else 0. ended is 1 after a refusal too: a call ends there (document 01), but nothing
-   has changed, and the caller may go on with it all the same. */
+   has changed, and the caller may go on with it all the same. So only ended = 1 with code 0 says that a call has done its work. */
 typedef struct {
   uint32_t code;
   uint32_t refusal;
@@ -176,32 +290,41 @@ typedef struct {
   uint32_t entry;
 } kozbrax_asked;
 
-/* Starts an Update. Returns the code: 22; else 21 where request_len is below 2,566; else 18 where a write is open; else 0.
-   Leaves, on 0: the Update in call and its first request in the first bytes of request. Else: everything as it was. */
+/* Starts an Update.
+   Returns the code: 22; else 21 where request_len is below KOZBRAX_REQUEST, 2,566; else 18 where a write is open; else 0.
+   Leaves, on 0: the Update in call and its first request in the first bytes of request. Else: everything as it was.
+   Custody: changes nothing that is to be saved. */
 kozbrax_asked kozbrax_update_start(uint32_t servers, uint32_t own, const uint8_t *log, const uint8_t *users, size_t users_len,
                                    const uint8_t *kept, uint8_t *call, uint8_t *request, size_t request_len);
 
 /* Starts a Write of an entry, or resumes the open write of that entry. tree is the key's; randomizer has 32 bytes.
-   Returns the code: 22; else 21 where request_len is below 2,566 or tree_len below 65,504; else 18 where a write of another entry is open;
-   else 19 where the entry has another shape than kozbrax_schedule names; else 26 where it begins with 3 and breaks the rules named there;
-   else 17 where the signature number is 1,024 and no signed write is open; else 0.
-   Leaves, on 0: the Write in call, the entry in the first bytes of held, and the first request. Else: everything as it was. */
+   Returns the code: 22; else 21 where request_len is below KOZBRAX_REQUEST or tree_len below KOZBRAX_TREE; else 18 where a write of
+   another entry is open; else 19 where the entry has another shape than kozbrax_schedule names; else 26 where it begins with 3 and
+   breaks the rules named there; else 17 where the signature number is 1,024 and no signed write is open; else 0.
+   Leaves, on 0: the Write in call, the entry in the first bytes of held, and the first request. Else: everything as it was.
+   Custody: changes nothing of kept, path and signature; but the entry is saved before the first Reserve is sent, since only this entry can
+   resume the write.
+   The randomizer is not known to anybody before the signature is handed out. It best comes from a hash of a second secret, the signature
+   number (kept's 4 bytes at 36) and the entry: then a write that is resumed from the state before its signature makes the same signature
+   again, also where the signature was not saved in time. This does not help where the state is older than the first Reserve: the text
+   may then be another. */
 kozbrax_asked kozbrax_write_start(uint32_t servers, uint32_t own, const uint8_t *log, const uint8_t *users, size_t users_len,
                                   const uint8_t *tree, size_t tree_len, const uint8_t *entry, size_t entry_len,
                                   const uint8_t *randomizer, const uint8_t *kept, const uint8_t *path, uint8_t *call, uint8_t *held,
                                   uint8_t *request, size_t request_len);
 
 /* Starts a Read of the entry at a position. Of the entry buffer the length is looked at.
-   Returns the code: 22; else 21 where request_len is below 2,566 or entry_len below 1,024; else 24 where the position is not 1 to the
-   version; else 0.
-   Leaves, on 0: the Read in call and its first request. Else: everything as it was. */
+   Returns the code: 22; else 21 where request_len is below KOZBRAX_REQUEST or entry_len below KOZBRAX_ENTRY, 1,024; else 24 where the
+   position is not 1 to the version; else 0.
+   Leaves, on 0: the Read in call and its first request. Else: everything as it was.
+   Custody: changes nothing that is to be saved. */
 kozbrax_asked kozbrax_read_start(uint32_t servers, uint32_t own, const uint8_t *log, const uint8_t *users, size_t users_len,
                                  uint32_t position, const uint8_t *kept, uint8_t *call, uint8_t *request, size_t request_len,
                                  const uint8_t *entry, size_t entry_len);
 
 /* Takes in an answer of any bytes to the call's last request. id (16 bytes), seed (32) and tree are the key's; only a Write reads them.
    Returns the code: 0 with the next request, or at the call's end; else the first that holds, by what call says:
-     every call: 22; 21 where request_len is below 2,566
+     every call: 22; 21 where request_len is below KOZBRAX_REQUEST
      Update: 18 where a write is open; 10 where this is no answer to the request that is out, or none is out; 11 where the server refused;
        for a Status 10 where the server cannot have that head, for the last one 12 where the greatest and the least label are `servers` or
        more apart, and 13 where the greatest label's position is below the version; for the Record 14 where its author is not listed or
@@ -209,15 +332,22 @@ kozbrax_asked kozbrax_read_start(uint32_t servers, uint32_t own, const uint8_t *
        does not give the Record's
      Write that is not open: its Update's codes in that order; where the Update ends, 20 where it has come to position 1,048,576, and 19
        where the entry strikes position 0 or one above the Update's
-     Write that is open: 21 also where tree_len is below 65,504; 10; 11; 17 where the Commit comes next, it is not signed yet and the
+     Write that is open: 21 also where tree_len is below KOZBRAX_TREE; 10; 11; 17 where the Commit comes next, it is not signed yet and the
        signature number is 1,024
-     Read: 21 also where entry_len is below 1,024; 24 where its position is not 1 to the version; 10; 11; for the last answer 23 where
-       author, entry and nodes do not give the own digest
+     Read: 21 also where entry_len is below KOZBRAX_ENTRY; 24 where its position is not 1 to the version; 10; 11; for the last answer 23
+       where author, entry and nodes do not give the own digest
      no call, the kind not 1 to 3 or a Write's opened above 1: 10
    Leaves, on 0: the call's next state in call, hashes and held, what is kept in kept, path and signature, the next request, where there
    is one, in the first bytes of request, and the entry of a Read that has ended in the first bytes of entry; the bytes past the request
-   and past the entry stay as they were. Else: everything as it was, and the same call may take another answer to its last request, which
-   may have to be sent again. */
+   and past the entry stay as they were. Else: everything as it was.
+   Custody: on 0, kept, path and signature are on stable storage before the request is sent or the call's end is reported. They change
+     at the end of an Update (version, digest): unsaved, the user could later take a log that differs from the one it has seen;
+     where a Write hands out its first Reserve (version, digest, opened, path): unsaved, the user cannot resume this write, and no
+       user can write any more: the Record that their Updates ask for is missing;
+     where a Write hands out its Commit and was not signed before (number, signed, signature): unsaved, the key may sign twice under one
+       number;
+     at the end of a Write (version, digest, opened, signed): unsaved, the write is open still, and resuming it ends it.
+   A Read changes none of them. On any other code there is nothing to save. */
 kozbrax_asked kozbrax_take(uint32_t servers, uint32_t own, const uint8_t *log, const uint8_t *users, size_t users_len, const uint8_t *id,
                            const uint8_t *seed, const uint8_t *tree, size_t tree_len, const uint8_t *answer, size_t answer_len,
                            uint8_t *kept, uint8_t *path, uint8_t *signature, uint8_t *call, uint8_t *hashes, uint8_t *held,
@@ -230,7 +360,7 @@ typedef struct {
 } kozbrax_settled_answer;
 
 /* Whether the user's own operation at a position is settled. Returns the code: 22; else 24 where the position is not 1 to the version;
-   else 0. Writes nothing. */
+   else 0. Writes nothing, and nothing is to be saved. */
 kozbrax_settled_answer kozbrax_settled(uint32_t servers, uint32_t own, const uint8_t *log, const uint8_t *users, size_t users_len,
                                        const uint8_t *kept, uint32_t position);
 
