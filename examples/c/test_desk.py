@@ -14,6 +14,10 @@ WORK = tempfile.mkdtemp(prefix="desk-")
 USERS = os.path.join(WORK, "users")
 
 
+class Served(ctypes.Structure):
+    _fields_ = [("code", ctypes.c_uint32), ("answer", ctypes.c_uint32), ("used", ctypes.c_uint64)]
+
+
 class Asked(ctypes.Structure):
     _fields_ = [(f, ctypes.c_uint32) for f in ("code", "refusal", "server", "length", "ended", "author", "entry")]
 
@@ -24,6 +28,7 @@ def load_library():
     library = ctypes.CDLL(path)
     for name in ("update_start", "write_start", "read_start", "take"):
         getattr(library, "kozbrax_" + name).restype = Asked
+    library.kozbrax_server.restype = Served
     return library
 
 
@@ -70,6 +75,24 @@ class Key:
         assert library.kozbrax_lms_generate(self.seed, self.id, tree, size(65504)) == 0
         assert library.kozbrax_lms_public_key(self.id, tree, size(65504), public, size(56)) == 0
         self.tree, self.public = tree, public.raw
+
+
+class Model:
+    """The same server in memory, with which a desk's answers and files are compared."""
+
+    def __init__(self, library, key, own):
+        self.library, self.key, self.own, self.used = library, key, own, 0
+        self.head, self.store, self.answer = (ctypes.create_string_buffer(n) for n in (39, 10**6, 2552))
+
+    def ask(self, request):
+        served = self.library.kozbrax_server(N, self.own, NAME.encode().ljust(16, b"\0"), self.key.public, size(56), self.head,
+                                             self.store, size(10**6), ctypes.c_uint64(self.used), request, size(len(request)),
+                                             self.answer, size(2552))
+        self.used = served.used
+        return self.answer.raw[:served.answer]
+
+    def state(self):
+        return self.head.raw, self.store.raw[:self.used]
 
 
 def arguments(folder, own, new=False, n=N, name=NAME, users=USERS, limit=None):
@@ -157,21 +180,29 @@ def mend_lock(folder):
 class Servers:
     """N desks. Each request may find its server killed before it, while it is served, or after its answer has come."""
 
-    def __init__(self, folder, kills):
+    def __init__(self, library, key, folder, kills):
         self.folders = [os.path.join(folder, str(i + 1)) for i in range(N)]
         self.desks = [Desk(f, i + 1, new=True) for i, f in enumerate(self.folders)]
         assert all(desk.ask(b"") for desk in self.desks)
-        self.confirmed, self.kills, self.killed, self.late, self.mended = [None] * N, kills, 0, 0, 0
+        self.models = [Model(library, key, i + 1) for i in range(N)]
+        self.kills, self.killed, self.late, self.mended = kills, 0, 0, 0
 
-    def restart(self, i):
-        """Kills a desk. What was confirmed is there still, or one change more, which was not answered."""
+    def state(self, i):
+        return state_of(file_of(self.folders[i]))[1:]
+
+    def answered(self, i, request, answer):
+        """The answer is the model's, and what it says is in the file."""
+        assert answer == self.models[i].ask(request), self.desks[i].end()
+        assert self.state(i) == self.models[i].state(), "an answer left before its change was saved"
+
+    def restart(self, i, request):
+        """Kills a desk. What was answered is there still, or one change more, of the request that was not answered."""
         self.desks[i].kill()
         self.killed += 1
         self.mended += mend_lock(self.folders[i])
-        found = state_of(file_of(self.folders[i]))
-        if self.confirmed[i] and found != self.confirmed[i]:
-            number, _, store = self.confirmed[i]
-            assert found[0] == number + 1 and found[2].startswith(store), "an accepted change was lost"
+        if self.state(i) != self.models[i].state():
+            self.models[i].ask(request)
+            assert self.state(i) == self.models[i].state(), "an accepted change was lost"
             self.late += 1
         self.desks[i] = Desk(self.folders[i], i + 1)
 
@@ -184,12 +215,10 @@ class Servers:
             if moment == "during":
                 time.sleep(random.choice((0, 0.0002, 0.0005, 0.001, 0.002)))
             if moment == "after":
-                assert self.desks[i].get() is not None
-                self.confirmed[i] = state_of(file_of(self.folders[i]))
-            self.restart(i)
+                self.answered(i, request, self.desks[i].get())
+            self.restart(i, request)
         answer = self.desks[i].ask(request)
-        assert answer is not None, self.desks[i].end()
-        self.confirmed[i] = state_of(file_of(self.folders[i]))
+        self.answered(i, request, answer)
         return answer
 
     def end(self):
@@ -199,7 +228,7 @@ class Servers:
 
 
 def run_with_kills(library, key):
-    servers, user = Servers(os.path.join(WORK, "kills"), 0.3), User(library, key)
+    servers, user = Servers(library, key, os.path.join(WORK, "kills"), 0.3), User(library, key)
     entries = [b"\1" + random.randbytes(random.choice((0, 1, 40, 1023))) for _ in range(40)]
     for entry in entries:
         assert user.write(entry, servers.send).code == 0
@@ -211,6 +240,32 @@ def run_with_kills(library, key):
     servers.end()
     passed("40 writes and 80 reads, %d kills, %d of them between a change and its answer, %d while the lock was taken"
            % (servers.killed, servers.late, servers.mended))
+
+
+def order_of_calls(requests):
+    """Between a write to the log's file and the next answer the file is synchronized, and the store too where it has changed."""
+    if not shutil.which("strace"):
+        print("not tried, since there is no strace: the order of writing and synchronizing")
+        return
+    folder, trace = os.path.join(WORK, "order"), os.path.join(WORK, "trace")
+    os.makedirs(folder)
+    messages = b"".join(len(r).to_bytes(2, "big") + r for r in requests)
+    subprocess.run(["strace", "-o", trace, "-e", "trace=openat,write,msync,fsync"] + arguments(folder, 1, new=True), input=messages,
+                   stdout=subprocess.DEVNULL, check=True)
+    with open(trace) as f:
+        lines = f.read().split("\n")
+    opened = next(i for i, line in enumerate(lines) if '"log", O_RDWR' in line)
+    file = lines[opened].split()[-1]
+    pending, saves, records = False, 0, 0
+    for line in lines[opened:]:
+        if line.startswith("write(%s," % file):
+            pending, saves = True, saves + 1
+        pending = pending and not line.startswith("fsync(%s)" % file)
+        records += line.startswith("msync(")
+        assert not (pending and line.startswith("write(1,")), "an answer left before the file was synchronized"
+    number, _, store = state_of(file_of(folder))
+    assert saves == number - 1 and records == store.count(b"\x4b\x53")
+    passed("%d saves, %d of them with a record: each is synchronized before its answer" % (saves, records))
 
 
 def new_logs_with_kills():
@@ -231,7 +286,7 @@ def new_logs_with_kills():
 
 def power_failures(library, key):
     """The last change, a stored record, came to the disk in part: the state before it counts, and the repeated request is accepted."""
-    servers, user, steps = Servers(os.path.join(WORK, "power"), 0), User(library, key), []
+    servers, user, steps = Servers(library, key, os.path.join(WORK, "power"), 0), User(library, key), []
 
     def send(server, request):
         before = file_of(servers.folders[server - 1])
@@ -264,10 +319,11 @@ def power_failures(library, key):
             assert state_of(file_of(folder)) == new, what
             tried += 1
     passed("%d ways in which a change came to the disk in part" % tried)
+    return [request for server, request, *_ in steps if server == 1]
 
 
 def damages(library, key):
-    servers, user = Servers(os.path.join(WORK, "damage"), 0), User(library, key)
+    servers, user = Servers(library, key, os.path.join(WORK, "damage"), 0), User(library, key)
     for i in range(2):
         assert user.write(b"\1firing %d" % i, servers.send).code == 0
     servers.end()
@@ -425,7 +481,7 @@ def main():
     locks(folder)
     frames(library, folder)
     limits(library, key)
-    power_failures(library, key)
+    order_of_calls(power_failures(library, key))
     new_logs_with_kills()
     run_with_kills(library, key)
     shutil.rmtree(WORK)
