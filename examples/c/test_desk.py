@@ -10,7 +10,7 @@ HERE = os.path.dirname(os.path.abspath(__file__))
 DESK = os.path.join(HERE, "desk")
 ARCHIVE = os.path.join(HERE, "../../target/staticlib/libkozbrax.a")
 N, NAME = 3, "studio"
-WORK = tempfile.mkdtemp(prefix="desk-")
+WORK = tempfile.mkdtemp(prefix="kozbrax-test-desk-")
 USERS = os.path.join(WORK, "users")
 
 
