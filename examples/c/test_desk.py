@@ -1,13 +1,16 @@
 """Drives `desk` as its users do, kills it at random moments, damages its files by hand and tries each refusal.
 
-    python3 test_desk.py [SEED]
+    python3 test_desk.py [SEED [DESK ..]]
 
-The user is the library's own, called from Python. The log's file is read here by its description in desk.c, apart from its code.
+With programs named, each start takes one of them at random, and what only desk.c says is not tried: so two programs can take turns on the
+same files. The user is the library's own, called from Python. The log's file is read here by its description in desk.c, apart from its
+code.
 """
 import ctypes, hashlib, os, random, shutil, signal, subprocess, sys, tempfile, time
 
 HERE = os.path.dirname(os.path.abspath(__file__))
 DESK = os.path.join(HERE, "desk")
+PROGRAMS = [os.path.abspath(program) for program in sys.argv[2:]]
 ARCHIVE = os.path.join(HERE, "../../target/staticlib/libkozbrax.a")
 N, NAME = 3, "studio"
 WORK = tempfile.mkdtemp(prefix="kozbrax-test-desk-")
@@ -96,7 +99,8 @@ class Model:
 
 
 def arguments(folder, own, new=False, n=N, name=NAME, users=USERS, limit=None):
-    return [DESK] + ["new"] * new + [folder, str(n), str(own), name, users] + ([] if limit is None else [str(limit)])
+    program = random.choice(PROGRAMS) if PROGRAMS else DESK
+    return [program] + ["new"] * new + [folder, str(n), str(own), name, users] + ([] if limit is None else [str(limit)])
 
 
 class Desk:
@@ -476,12 +480,15 @@ def main():
     key = Key(library)
     with open(USERS, "wb") as f:
         f.write(key.public)
-    folder = damages(library, key)
-    refusals(folder)
-    locks(folder)
-    frames(library, folder)
-    limits(library, key)
-    order_of_calls(power_failures(library, key))
+    if not PROGRAMS:
+        folder = damages(library, key)
+        refusals(folder)
+        locks(folder)
+        frames(library, folder)
+        limits(library, key)
+    requests = power_failures(library, key)
+    if not PROGRAMS:
+        order_of_calls(requests)
     new_logs_with_kills()
     run_with_kills(library, key)
     shutil.rmtree(WORK)
