@@ -1,13 +1,13 @@
 // A server of a log over standard input and output, its head and store in a folder: docs/OPERATING.md. An answer leaves once what it promises
 // is on the folder's device.
-mod arguments;
 mod log;
 mod serve;
 
 ghost use mathlib.Core.Path.{_≡_};
 ghost use lib.ListN.{length};
-use arguments::Desk;
 use sha256::bytes;
+use state_files::arguments;
+use state_files::arguments::Settings;
 use state_files::file;
 use state_files::lock;
 use state_files::report;
@@ -22,8 +22,16 @@ fn zeros() -> [u8; 4194304]
 }
 
 fn main() {
-    let new = arguments::begins();
-    let first = arguments::folder_at(new);
+    if arguments::is(1, b"new") {
+        run(true, 2);
+    } else {
+        run(false, 1);
+    }
+}
+
+// Serves the log that the arguments name from the folder's on.
+fn run(new: bool, at: usize) {
+    let first = at % 3;
     let mut room = io::buffer();
     let text: &mut [u8] = &mut room;
     let n = os::arg(first, text);
@@ -31,18 +39,17 @@ fn main() {
     let keys: &mut [u8] = &mut list;
     let u = arguments::load(first + 4, keys);
     let users = bytes::front(keys, u);
-    let d = arguments::served(first + 1);
-    if os::arg_count() != first + 5 || !arguments::fits(d, users) {
-        report::line(
-            b"usage: desk [new] FOLDER N OWN NAME USERS, with N from 2 to 16, OWN from 1 to N, NAME of 1 to 16 bytes, USERS a file of 1 to 64 public keys",
-        );
+    let d = arguments::read_settings(first + 1, first + 2, first + 3);
+    if os::arg_count() != first + 5 || !arguments::fit(d, d.servers, users) {
+        report::line(b"usage: desk [new] FOLDER N OWN NAME USERS");
+        report::line(b"N from 2 to 16, OWN from 1 to N, NAME of 1 to 16 bytes, USERS a file of 1 to 64 public keys");
         return;
     }
     serve_locked(d, new, bytes::front(text, n), users);
 }
 
 // Serves the log of a folder while its lock is held.
-fn serve_locked(d: Desk, new: bool, folder: &[u8], users: &[u8]) {
+fn serve_locked(d: Settings, new: bool, folder: &[u8], users: &[u8]) {
     if !lock::take(folder) {
         return;
     }
@@ -55,7 +62,7 @@ fn serve_locked(d: Desk, new: bool, folder: &[u8], users: &[u8]) {
 }
 
 // Serves the log of a folder. What a killed process left is first brought to the device, since answers speak of it.
-fn serve_folder(d: Desk, mark: [u8; 32], folder: &[u8], users: &[u8]) {
+fn serve_folder(d: Settings, mark: [u8; 32], folder: &[u8], users: &[u8]) {
     let fd = file::open_update(folder, b"log");
     if fd < 0 {
         os::fail(b"the folder has no log that can be opened; `new` begins one");
