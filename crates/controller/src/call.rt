@@ -1,0 +1,105 @@
+// A whole call: each request is sent once the user's state is saved, until the call has ended or an answer is refused.
+use crate::links;
+use crate::step;
+use crate::step::Step;
+use lent_bytes::using::Asked;
+use sha256::bytes;
+use state_files::arguments::Settings;
+use state_files::user_file;
+
+// What a call gives beside the codes of the log: the state could not be saved; a server gave no answer.
+pub const NOT_SAVED: u32 = 1000;
+
+pub const NO_ANSWER: u32 = 1001;
+
+// What a call gives that has ended with a code of its own.
+fn ended(code: u32, server: u32) -> Asked {
+    Asked {
+        code,
+        refusal: 0,
+        server,
+        length: 0,
+        ended: 1,
+        author: 0,
+        entry: 0,
+    }
+}
+
+// Whether the user's state is as it was saved last.
+fn is_saved(memory: &[u8]) -> bool {
+    let last = bytes::front(bytes::from(memory, step::SAVED), step::SAVED);
+    bytes::same(bytes::front(memory, step::SAVED), last)
+}
+
+// Saves the user's state where it is not as it was saved last, and answers whether it is on its device.
+pub fn save(file: i32, memory: &mut [u8]) -> bool {
+    if is_saved(memory) {
+        return true;
+    }
+    let mut room = [0u8; 4320];
+    let state: &mut [u8] = &mut room;
+    step::load(memory, 0, state);
+    let saved = user_file::save(file, state);
+    bytes::put(memory, 0, state);
+    bytes::put(memory, step::SAVED, state);
+    saved
+}
+
+// Sends the request that a step handed out, and reads the answer. Answers its length, 65,536 where none came.
+fn ask(asked: Asked, memory: &[u8], links: &mut [i32], answer: &mut [u8]) -> usize {
+    let request = bytes::front(bytes::from(memory, step::REQUEST), asked.length as usize);
+    links::ask(asked.server, request, links, answer)
+}
+
+// Sends the request that a step handed out, and takes in the answer.
+fn exchange(
+    g: Settings,
+    file: i32,
+    asked: Asked,
+    users: &[u8],
+    keys: &[u8],
+    memory: &mut [u8],
+    links: &mut [i32],
+) -> Asked {
+    if !save(file, memory) {
+        return ended(NOT_SAVED, 0);
+    }
+    let mut room = [0u8; 4096];
+    let answer: &mut [u8] = &mut room;
+    let n = ask(asked, memory, links, answer);
+    if n == 65536 {
+        return ended(NO_ANSWER, asked.server);
+    }
+    let taken = Step {
+        kind: 0,
+        position: 0,
+    };
+    step::run(g, taken, users, keys, bytes::front(answer, n), memory)
+}
+
+// A call from its start to its end: the input is the entry of a Write. No call takes more than 128 answers.
+pub fn run(
+    g: Settings,
+    file: i32,
+    start: Step,
+    users: &[u8],
+    keys: &[u8],
+    input: &[u8],
+    memory: &mut [u8],
+    links: &mut [i32],
+) -> Asked {
+    let mut asked = step::run(g, start, users, keys, input, memory);
+    let mut left: u8 = 128;
+    while left > 0 {
+        if asked.ended == 1 {
+            left = 0;
+        } else {
+            asked = exchange(g, file, asked, users, keys, memory, links);
+            left -= 1;
+        }
+    }
+    if !save(file, memory) {
+        return ended(NOT_SAVED, 0);
+    }
+    asked
+}

@@ -1,0 +1,206 @@
+// A step of a user's call: its start, or an answer that it takes in. The user's memory is one slice of 14,586 bytes: its state (`user_file`),
+// the state as it was saved last, the call, its hashes, the held entry, the request and the entry that is read.
+use crate::key;
+use lent_bytes::taking;
+use lent_bytes::using;
+use lent_bytes::using::Asked;
+use sha256::bytes;
+use state_files::arguments::Settings;
+use state_files::user_file;
+
+// The memory: the state, the state as it was saved last, and a call's.
+pub const SAVED: usize = 4320;
+
+const CALL: usize = 8640;
+
+const HASHES: usize = 8722;
+
+const HELD: usize = 9970;
+
+pub const REQUEST: usize = 10996;
+
+pub const ENTRY: usize = 13562;
+
+// What a step does: 0 takes in an answer, 1 starts an Update, 2 a Write, 3 a Read of the entry at a position.
+pub struct Step {
+    pub kind: u8,
+    pub position: u32,
+}
+
+// Fills d with the bytes of a slice from `at` on.
+pub fn load(s: &[u8], at: usize, d: &mut [u8]) {
+    bytes::put(d, 0, bytes::front(bytes::from(s, at), d.len()));
+}
+
+// Lays what is kept.
+fn keep_state(kept: &[u8; 42], path: &[u8; 672], signature: &[u8; 2508], memory: &mut [u8]) {
+    bytes::put2(memory, user_file::KEPT, kept, path);
+    bytes::put(memory, user_file::SIGNATURE, signature);
+}
+
+// Lays the call's memory.
+fn keep_call(call: &[u8; 82], hashes: &[u8; 1248], held: &[u8; 1026], memory: &mut [u8]) {
+    bytes::put2(memory, CALL, call, hashes);
+    bytes::put(memory, HELD, held);
+}
+
+// The start of a call.
+fn start(
+    g: Settings,
+    step: Step,
+    users: &[u8],
+    keys: &[u8],
+    input: &[u8],
+    kept: &[u8; 42],
+    path: &[u8; 672],
+    call: &mut [u8; 82],
+    held: &mut [u8; 1026],
+    request: &mut [u8],
+    entry: &[u8],
+) -> Asked {
+    let n = g.servers;
+    let own = g.own;
+    let log = g.log;
+    if step.kind == 1 {
+        return using::update_start(n, own, &log, users, kept, call, request);
+    }
+    if step.kind == 3 {
+        return using::read_start(
+            n, own, &log, users, step.position, kept, call, request, entry,
+        );
+    }
+    let randomizer = key::randomizer(keys, bytes::front(bytes::from(kept, 36), 4), input);
+    using::write_start(
+        n,
+        own,
+        &log,
+        users,
+        key::tree(keys),
+        input,
+        &randomizer,
+        kept,
+        path,
+        call,
+        held,
+        request,
+    )
+}
+
+// The step with everything lent.
+fn lent(
+    g: Settings,
+    step: Step,
+    users: &[u8],
+    keys: &[u8],
+    input: &[u8],
+    kept: &mut [u8; 42],
+    path: &mut [u8; 672],
+    signature: &mut [u8; 2508],
+    call: &mut [u8; 82],
+    hashes: &mut [u8; 1248],
+    held: &mut [u8; 1026],
+    request: &mut [u8],
+    entry: &mut [u8],
+) -> Asked {
+    if 0 < step.kind {
+        return start(
+            g, step, users, keys, input, kept, path, call, held, request, entry,
+        );
+    }
+    let log = g.log;
+    let id = key::identifier(keys);
+    let seed = key::seed(keys);
+    taking::take(
+        g.servers,
+        g.own,
+        &log,
+        users,
+        &id,
+        &seed,
+        key::tree(keys),
+        input,
+        kept,
+        path,
+        signature,
+        call,
+        hashes,
+        held,
+        request,
+        entry,
+    )
+}
+
+// The step with what is kept lent from the state; the call's memory is loaded and laid.
+fn on_call(
+    g: Settings,
+    step: Step,
+    users: &[u8],
+    keys: &[u8],
+    input: &[u8],
+    kept: &mut [u8; 42],
+    path: &mut [u8; 672],
+    signature: &mut [u8; 2508],
+    memory: &mut [u8],
+) -> Asked {
+    let mut call = [0u8; 82];
+    let mut hashes = [0u8; 1248];
+    let mut held = [0u8; 1026];
+    let mut room = [0u8; 2566];
+    let mut room_2 = [0u8; 1024];
+    let request: &mut [u8] = &mut room;
+    let entry: &mut [u8] = &mut room_2;
+    load(memory, CALL, &mut call);
+    load(memory, HASHES, &mut hashes);
+    load(memory, HELD, &mut held);
+    load(memory, REQUEST, request);
+    load(memory, ENTRY, entry);
+    let asked = lent(
+        g,
+        step,
+        users,
+        keys,
+        input,
+        kept,
+        path,
+        signature,
+        &mut call,
+        &mut hashes,
+        &mut held,
+        request,
+        entry,
+    );
+    bytes::put(memory, REQUEST, request);
+    bytes::put(memory, ENTRY, entry);
+    keep_call(&call, &hashes, &held, memory);
+    asked
+}
+
+// A step of a call on a user's state. The input is the entry of a Write, or the answer that is taken in.
+pub fn run(
+    g: Settings,
+    step: Step,
+    users: &[u8],
+    keys: &[u8],
+    input: &[u8],
+    memory: &mut [u8],
+) -> Asked {
+    let mut kept = [0u8; 42];
+    let mut path = [0u8; 672];
+    let mut signature = [0u8; 2508];
+    load(memory, user_file::KEPT, &mut kept);
+    load(memory, user_file::PATH, &mut path);
+    load(memory, user_file::SIGNATURE, &mut signature);
+    let asked = on_call(
+        g,
+        step,
+        users,
+        keys,
+        input,
+        &mut kept,
+        &mut path,
+        &mut signature,
+        memory,
+    );
+    keep_state(&kept, &path, &signature, memory);
+    asked
+}
