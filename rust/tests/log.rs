@@ -1,0 +1,113 @@
+//! Two servers and one user: writes, an update, reads, a strike, and damaged answers.
+mod common;
+
+use common::{servers, settings, Key, Server, User};
+use kozbrax::{code, SettledAnswer};
+
+const FIRST: &[u8] = b"\x01first";
+const SECOND: &[u8] = b"\x01second";
+const STRIKE_OF_FIRST: &[u8] = &[2, 0, 0, 0, 1];
+
+/// A user's log with these entries.
+fn written(key: &Key, entries: &[&[u8]]) -> (User, Vec<Server>) {
+    let (mut user, mut servers) = (User::new(), servers());
+    for entry in entries {
+        let asked = user.write_start(key, entry);
+        user.finish(key, &mut servers, asked);
+    }
+    (user, servers)
+}
+
+#[test]
+fn what_is_written_is_read() {
+    let key = Key::new(3);
+    let (mut user, mut servers) = written(&key, &[FIRST, SECOND, STRIKE_OF_FIRST]);
+    assert_eq!(user.version(), 3, "the writer's version");
+    for (position, entry) in [(1, FIRST), (2, SECOND), (3, STRIKE_OF_FIRST)] {
+        let asked = user.read_start(&key, position);
+        let read = user.finish(&key, &mut servers, asked);
+        assert_eq!(read.author, 1, "the author of entry {position}");
+        assert_eq!(&user.entry[..read.entry as usize], entry, "entry {position}");
+    }
+    let asked = user.read_start(&key, 4);
+    assert_eq!(asked.code, code::POSITION_OUT_OF_RANGE, "there is no entry 4");
+}
+
+#[test]
+fn an_update_brings_a_new_user_to_the_version() {
+    let key = Key::new(4);
+    let (writer, mut servers) = written(&key, &[FIRST, SECOND]);
+    let mut other = User::new();
+    let asked = other.update_start(&key);
+    assert_eq!((asked.code, asked.server), (0, 1), "the first request is for server 1");
+    other.finish(&key, &mut servers, asked);
+    assert_eq!(other.version(), 2, "the version after the Update");
+    assert_eq!(other.kept[4..36], writer.kept[4..36], "the digest of both users");
+}
+
+#[test]
+fn an_operation_is_settled_after_its_wait() {
+    let key = Key::new(5);
+    let settled = |user: &User| kozbrax::settled(&settings(&key.public), &user.kept, 1);
+    assert_eq!(kozbrax::wait(2, 1), Some(1), "Q(1, 2)");
+    let (user, _) = written(&key, &[FIRST]);
+    assert_eq!(settled(&user), SettledAnswer { code: 0, settled: 0 }, "with one entry");
+    let (user, _) = written(&key, &[FIRST, SECOND]);
+    assert_eq!(settled(&user), SettledAnswer { code: 0, settled: 1 }, "with two entries");
+}
+
+#[test]
+fn a_strike_of_a_later_position_is_refused() {
+    let key = Key::new(6);
+    let (mut user, mut servers) = written(&key, &[FIRST]);
+    let mut asked = user.write_start(&key, &[2, 0, 0, 0, 2]);
+    assert_eq!(asked.code, 0, "the Write starts");
+    while asked.code == 0 && asked.ended == 0 {
+        let answer = user.answer(&key, &mut servers, asked);
+        asked = user.take(&key, &answer);
+    }
+    assert_eq!(asked.code, code::ENTRY_NOT_ALLOWED, "where the Update ends");
+    assert_eq!(user.version(), 1, "the version");
+}
+
+/// Takes a call to its end; before each answer the same with one byte changed is refused, and changes nothing. The codes of refusals.
+fn finish_with_damage(user: &mut User, key: &Key, servers: &mut [Server], mut asked: kozbrax::Asked) -> Vec<u32> {
+    let mut codes = Vec::new();
+    while asked.ended == 0 {
+        let answer = user.answer(key, servers, asked);
+        for place in [0, answer.len() - 1] {
+            let mut damaged = answer.clone();
+            damaged[place] ^= 1;
+            let before = user.clone();
+            let refused = user.take(key, &damaged);
+            if refused.code == 0 {
+                // A node's hash is judged with the last one: go back to where the right answer is taken.
+                *user = before;
+                continue;
+            }
+            assert_eq!((refused.ended, refused.length), (1, 0), "a refusal asks for nothing");
+            assert!(*user == before, "a refusal with {} leaves every byte as it was", refused.code);
+            codes.push(refused.code);
+        }
+        asked = user.take(key, &answer);
+        assert_eq!(asked.code, 0, "the right answer is taken after the damaged ones");
+    }
+    codes
+}
+
+#[test]
+fn a_damaged_answer_is_refused_and_the_right_one_taken() {
+    let key = Key::new(7);
+    let (_, mut servers) = written(&key, &[FIRST, SECOND]);
+    let mut user = User::new();
+    let asked = user.update_start(&key);
+    let codes = finish_with_damage(&mut user, &key, &mut servers, asked);
+    assert_eq!(user.version(), 2, "the version after the Update");
+    assert!(codes.contains(&code::NO_ANSWER_TO_THE_REQUEST), "another first byte: {codes:?}");
+    assert!(codes.contains(&code::RECORD_NOT_SIGNED), "another last byte of the Record's signature: {codes:?}");
+    assert!(codes.contains(&code::NOT_THE_RECORDS_DIGEST), "another last node: {codes:?}");
+    let asked = user.read_start(&key, 2);
+    let codes = finish_with_damage(&mut user, &key, &mut servers, asked);
+    assert_eq!(&user.entry[..SECOND.len()], SECOND, "the entry that was read");
+    assert!(codes.contains(&code::ENTRY_NOT_IN_THE_LOG), "another last answer of a Read: {codes:?}");
+}
