@@ -1,5 +1,5 @@
-//! Links target/staticlib/libkozbrax.a of the repository; and beside it, where KOZBRAX_BEFORE names the folder target/ of an
-//! earlier one, that one's.
+//! Links the archive of an earlier library beside that of the package kozbrax, where KOZBRAX_BEFORE names the folder target/ of an
+//! earlier repository.
 use std::env;
 use std::path::{Path, PathBuf};
 use std::process::Command;
@@ -8,16 +8,6 @@ use std::process::Command;
 const RENAMED: [(&str, &str); 2] = [("kozbrax_first_label", "before_first_label"), ("kozbrax_owner", "before_owner")];
 
 fn main() {
-    let here = PathBuf::from(env::var("CARGO_MANIFEST_DIR").expect("cargo names the package's folder"));
-    let folder = here.join("../target/staticlib");
-    let archive = folder.join("libkozbrax.a");
-    assert!(
-        archive.exists(),
-        "no target/staticlib/libkozbrax.a: run `rt staticlib kozbrax` at the repository's root first"
-    );
-    println!("cargo:rustc-link-search=native={}", folder.display());
-    println!("cargo:rustc-link-lib=static=kozbrax");
-    println!("cargo:rerun-if-changed={}", archive.display());
     println!("cargo:rustc-check-cfg=cfg(before)");
     println!("cargo:rerun-if-env-changed=KOZBRAX_BEFORE");
     if let Ok(earlier) = env::var("KOZBRAX_BEFORE") {

@@ -1,7 +1,7 @@
 //! SHA-256: the library's hash against plain Rust's.
 use crate::sample::bytes;
 use crate::timing::{Clock, Race};
-use crate::{library, plain, stack};
+use crate::{plain, stack};
 use std::hint::black_box;
 
 const ROUNDS: usize = 1000;
@@ -34,13 +34,13 @@ fn compare() -> usize {
         let mut expected = [0; 32];
         plain::sha256(&message, &mut expected);
         let mut out = [0x5a; 40];
-        assert_eq!(library::sha256(&message, &mut out), 0, "code at {length} bytes");
+        assert_eq!(kozbrax::sha256(&message, &mut out), 0, "code at {length} bytes");
         assert_eq!(out[..32], expected, "hash of {length} bytes");
         assert_eq!(out[32..], [0x5a; 8], "bytes past the hash at {length} bytes");
     }
     for short in 0..32 {
         let mut out = vec![0x5a; short];
-        assert_eq!(library::sha256(b"abc", &mut out), 21, "code for a buffer of {short} bytes");
+        assert_eq!(kozbrax::sha256(b"abc", &mut out), 21, "code for a buffer of {short} bytes");
         assert!(out.iter().all(|byte| *byte == 0x5a), "a refused buffer of {short} bytes");
     }
     lengths.len()
@@ -59,7 +59,7 @@ fn time(subjects: &[(&str, usize)]) {
         for (race, message) in races.iter_mut().zip(&messages) {
             race.round(
                 || {
-                    library::sha256(black_box(message), black_box(&mut other));
+                    kozbrax::sha256(black_box(message), black_box(&mut other));
                 },
                 || plain::sha256(black_box(message), black_box(&mut out)),
             );
@@ -74,7 +74,7 @@ fn time(subjects: &[(&str, usize)]) {
 fn stack_of(length: usize) -> usize {
     let message = bytes(length, 2);
     let mut out = [0; 32];
-    stack::of_call(library::sha256 as fn(&[u8], &mut [u8]) -> u32, nothing, |f| {
+    stack::of_call(kozbrax::sha256 as fn(&[u8], &mut [u8]) -> u32, nothing, |f| {
         f(black_box(&message), black_box(&mut out));
     })
 }

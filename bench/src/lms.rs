@@ -2,7 +2,8 @@
 use crate::plain_lms::{KEY, NO, NUMBER_TOO_LARGE, SHORT, SIGNATURE, TREE};
 use crate::sample::{array, bytes};
 use crate::timing::{Clock, Race};
-use crate::{library, plain_lms, stack};
+use crate::{numbers, plain_lms, stack};
+use kozbrax::Signer;
 use std::hint::black_box;
 use std::ops::Range;
 
@@ -13,15 +14,6 @@ const SHORT_ROUNDS: usize = 25;
 const PAINT: u8 = 0x5a;
 const PAST: usize = 40;
 
-/// What signs beside the key's tree.
-#[derive(Clone, Copy)]
-pub struct Signer<'a> {
-    pub seed: &'a [u8; 32],
-    pub id: &'a [u8; 16],
-    pub number: u32,
-    pub randomizer: &'a [u8; 32],
-}
-
 struct Side {
     generate: fn(&[u8; 32], &[u8; 16], &mut [u8]) -> u32,
     public_key: fn(&[u8; 16], &[u8], &mut [u8]) -> u32,
@@ -30,10 +22,10 @@ struct Side {
 }
 
 const LIBRARY: Side = Side {
-    generate: library::lms_generate,
-    public_key: library::lms_public_key,
-    sign: library::lms_sign,
-    check: library::lms_check,
+    generate: kozbrax::lms_generate,
+    public_key: kozbrax::lms_public_key,
+    sign: kozbrax::lms_sign,
+    check: numbers::lms_check,
 };
 
 const PLAIN: Side = Side {

@@ -1,9 +1,11 @@
 //! Compares the proved library with plain Rust: first the results, then the speed. See README.md.
+#[cfg(before)]
+mod before;
 mod hash;
-mod library;
 mod lms;
 #[cfg(before)]
 mod map;
+mod numbers;
 mod opening;
 mod plain;
 mod plain_lms;

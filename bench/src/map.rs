@@ -1,8 +1,8 @@
 //! The owner map's work, by the library and by an earlier one in the same run: first labels, and the owners of every node of
 //! the paths, near a log's start and at the end of the longest one; and the program `paths`, which draws the map, with its
 //! earlier one. Time, and instructions counted by callgrind.
-use crate::library;
 use crate::timing::{Clock, Race};
+use crate::{before, numbers};
 use std::env;
 use std::hint::black_box;
 use std::io::Write;
@@ -23,8 +23,8 @@ struct Side {
 }
 
 const SIDES: [Side; 2] = [
-    Side { name: "before", first_label: library::before::first_label, owner: library::before::owner },
-    Side { name: "after", first_label: library::first_label, owner: library::owner },
+    Side { name: "before", first_label: before::first_label, owner: before::owner },
+    Side { name: "after", first_label: numbers::first_label, owner: numbers::owner },
 ];
 
 type Work = fn(&Side, RangeInclusive<u32>) -> u64;

@@ -6,26 +6,18 @@ mod speed;
 mod sweeps;
 mod tally;
 
-use crate::library;
 use crate::schedule::plain::{AGAINST_RULES, MISSHAPEN};
 use crate::tally::sweep;
+use kozbrax::Start;
 use plain::{HOURS_REFUSED, NO_START};
 use tally::Tally;
-
-/// The code, and where it is 0 the start.
-#[repr(C)]
-#[derive(Clone, Copy, PartialEq, Debug)]
-pub struct Start {
-    pub code: u32,
-    pub start: u32,
-}
 
 type Report = fn(&[u32], u32, u32) -> Start;
 type ReportOfSchedule = fn(&[u8], &[u32], u32) -> Start;
 
-const LIBRARY: Report = library::opening;
+const LIBRARY: Report = kozbrax::opening;
 const PLAIN: Report = plain::report;
-const OF_SCHEDULE: ReportOfSchedule = library::schedule_opening;
+const OF_SCHEDULE: ReportOfSchedule = kozbrax::schedule_opening;
 const PLAIN_OF_SCHEDULE: ReportOfSchedule = plain::report_schedule;
 
 pub fn run(seed: u64) {

@@ -1,8 +1,8 @@
 //! LMS (RFC 8554) in plain Rust over the SHA-256 of plain.rs, written from the RFC apart from the Rattle sources. One set:
 //! LMS_SHA256_M32_H10 (type 6) with LMOTS_SHA256_N32_W4 (type 3), and the secret strings of appendix A. The functions take
 //! and return what the library's do, so that the two can be compared. No unsafe code.
-use crate::lms::Signer;
 use crate::plain::{compress, INITIAL};
+use kozbrax::Signer;
 use std::cell::Cell;
 
 /// Section 4.1, Table 1: 67 chains of 15 links, and the checksum moved left by 4 bits.

@@ -5,9 +5,10 @@ mod tally;
 pub mod warm;
 
 use crate::sample::Random;
+use crate::stack;
 use crate::tally::{sweep, Trial, OFTEN};
 use crate::timing::{Clock, Race};
-use crate::{library, stack};
+use kozbrax::Firing;
 use std::hint::black_box;
 use tally::Tally;
 
@@ -16,18 +17,9 @@ const ROUNDS: usize = 100;
 /// How many schedules are reported in turn while the time is taken: one, whose branches the processor learns, and many.
 const IN_TURN: [usize; 2] = [1, 1024];
 
-/// The code, and where it is 0 the total of minutes and the highest target.
-#[repr(C)]
-#[derive(Clone, Copy, PartialEq, Debug)]
-pub struct Firing {
-    pub code: u32,
-    pub minutes: u32,
-    pub peak: u32,
-}
-
 type Report = fn(&[u8]) -> Firing;
 
-const LIBRARY: Report = library::schedule;
+const LIBRARY: Report = kozbrax::schedule;
 const PLAIN: Report = plain::report;
 
 pub fn run(seed: u64) {

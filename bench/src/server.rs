@@ -8,12 +8,13 @@ pub mod speed;
 pub mod sweeps;
 
 use crate::lms::Key;
+use crate::plain_server;
 use crate::plain_server::HEAD;
 use crate::sample::Random;
-use crate::{library, plain_server};
 use case::Tally;
 use exchange::Exchange;
 use honest::Log;
+use kozbrax::{Served, Settings};
 use sweeps::Sweeps;
 
 const EXCHANGES: u64 = 4000;
@@ -23,27 +24,10 @@ const STEPS: usize = 120;
 const OFTEN: usize = 2000;
 const OFTEN_FOR_A_KIND: usize = 300;
 
-/// What a server or a user is set up with; own is its number.
-pub struct Settings<'a> {
-    pub servers: u32,
-    pub own: u32,
-    pub log: &'a [u8; 16],
-    pub users: &'a [u8],
-}
-
-/// A call's result: code, length of the answer, used length of the store.
-#[repr(C)]
-#[derive(Clone, Copy, PartialEq)]
-pub struct Served {
-    pub code: u32,
-    pub answer: u32,
-    pub used: u64,
-}
-
 /// Settings, head, store, its used length, request, answer's buffer.
 pub type Serve = fn(&Settings, &mut [u8; HEAD], &mut [u8], u64, &[u8], &mut [u8]) -> Served;
 
-pub const LIBRARY: Serve = library::server;
+pub const LIBRARY: Serve = kozbrax::server;
 pub const PLAIN: Serve = plain_server::serve;
 
 pub fn run(seed: u64) {

@@ -5,7 +5,7 @@ mod tally;
 
 use crate::sample::Random;
 use crate::timing::{Clock, Race};
-use crate::{library, stack};
+use crate::{numbers, stack};
 use plain::{HASH, LAST_POSITION, NODE};
 use std::hint::black_box;
 use tally::Tally;
@@ -27,13 +27,13 @@ pub struct Side {
 }
 
 pub const LIBRARY: Side = Side {
-    first_label: library::first_label,
-    owner: library::owner,
-    wait: library::wait,
-    cover: library::cover,
-    leaf: library::leaf,
-    digest: library::digest,
-    board: library::board,
+    first_label: numbers::first_label,
+    owner: numbers::owner,
+    wait: numbers::wait,
+    cover: numbers::cover,
+    leaf: kozbrax::leaf,
+    digest: kozbrax::digest,
+    board: kozbrax::board,
 };
 
 pub const PLAIN: Side = Side {
@@ -109,7 +109,7 @@ fn time_digest(leaves: &[u8]) {
     for _ in 0..ROUNDS {
         race.round(
             || {
-                library::digest(black_box(leaves), black_box(&mut ours));
+                kozbrax::digest(black_box(leaves), black_box(&mut ours));
             },
             || {
                 plain::digest(black_box(leaves), black_box(&mut out));
@@ -129,7 +129,7 @@ fn time_board(kind: &str, targets: &[u32]) {
     for _ in 0..ROUNDS {
         race.round(
             || {
-                library::board(black_box(targets), black_box(&mut ours));
+                kozbrax::board(black_box(targets), black_box(&mut ours));
             },
             || {
                 plain::board_in_one_pass(black_box(targets), black_box(&mut out));

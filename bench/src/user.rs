@@ -10,15 +10,14 @@ mod speed;
 mod sweeps;
 mod world;
 
-use crate::library;
 use crate::lms::Key;
 use crate::plain_lms::SIGNATURE;
-use crate::plain_server::{HASH, LONGEST_ENTRY, REQUEST_HEADER};
+use crate::plain_server::{HASH, REQUEST_HEADER};
 use crate::sample::Random;
-use crate::server::Settings;
 use case::Tally;
 use exchange::Exchange;
 use honest::{Log, MadeUpLog};
+use kozbrax::{Asked, Lent, Settings, SettledAnswer, Signing, KEPT};
 use sweeps::Sweeps;
 use world::Table;
 
@@ -28,54 +27,7 @@ const CALLS: usize = 30;
 /// How often each code has to come up for each kind of step that may have it, for the comparison to count.
 const OFTEN: usize = 50;
 
-pub const KEPT: usize = 4 + HASH + 4 + 1 + 1;
-pub const PATH: usize = 21 * HASH;
-pub const CALL: usize = 82;
-pub const HASHES: usize = 39 * HASH;
-pub const HELD: usize = 2 + LONGEST_ENTRY;
 pub const LEAST_REQUEST: usize = REQUEST_HEADER + HASH + SIGNATURE;
-
-/// A step's result: its code, beside 11 the server's; the next request's server and length; whether the call has ended; of a
-/// Read that ended the author and the entry's length.
-#[repr(C)]
-#[derive(Clone, Copy, Default, PartialEq, Debug)]
-pub struct Asked {
-    pub code: u32,
-    pub refusal: u32,
-    pub server: u32,
-    pub length: u32,
-    pub ended: u32,
-    pub author: u32,
-    pub entry: u32,
-}
-
-#[repr(C)]
-#[derive(Clone, Copy, PartialEq, Debug)]
-pub struct SettledAnswer {
-    pub code: u32,
-    pub settled: u32,
-}
-
-/// A user's key: what its signatures are made with.
-#[derive(Clone, Copy)]
-pub struct Signing<'a> {
-    pub id: &'a [u8; 16],
-    pub seed: &'a [u8; 32],
-    pub tree: &'a [u8],
-}
-
-/// The buffers that a user lends: what it keeps with the path and signature of its open write, its call with the hashes and
-/// the entry of it, and where the next request and an entry that is read go.
-pub struct Lent<'a> {
-    pub kept: &'a mut [u8; KEPT],
-    pub path: &'a mut [u8; PATH],
-    pub signature: &'a mut [u8; SIGNATURE],
-    pub call: &'a mut [u8; CALL],
-    pub hashes: &'a mut [u8; HASHES],
-    pub held: &'a mut [u8; HELD],
-    pub request: &'a mut [u8],
-    pub entry: &'a mut [u8],
-}
 
 /// The five calls of one side. A Write's start takes the entry and the randomizer, a Read's the position, a step the answer.
 pub struct Side {
@@ -95,11 +47,11 @@ pub const PLAIN: Side = Side {
 };
 
 pub const LIBRARY: Side = Side {
-    update_start: library::update_start,
-    write_start: library::write_start,
-    read_start: library::read_start,
-    take: library::take,
-    settled: library::settled,
+    update_start: kozbrax::update_start,
+    write_start: kozbrax::write_start,
+    read_start: kozbrax::read_start,
+    take: kozbrax::take,
+    settled: kozbrax::settled,
 };
 
 /// The used parts of the servers' stores of a log that one user has written without a fault.

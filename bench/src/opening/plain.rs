@@ -1,7 +1,7 @@
 //! The earliest start within opening hours in plain Rust, minute by minute, written from document 02, j, by one who had read of
 //! the Rattle sources for it the header alone. Codes 19 and 26 and the total are those of `schedule/plain.rs`. No unsafe code.
-use super::Start;
 use crate::schedule::plain as schedule;
+use kozbrax::Start;
 
 pub const HOURS_REFUSED: u32 = 33;
 pub const NO_START: u32 = 34;

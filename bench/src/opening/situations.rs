@@ -1,8 +1,8 @@
 //! What the calls came upon, so that the run can tell that it met each kind.
 use super::hours::Hours;
 use super::plain::{Counts, Refusal, HOURS_REFUSED, NO_START, WEEK};
-use super::Start;
 use crate::schedule::plain::{AGAINST_RULES, MISSHAPEN};
+use kozbrax::Start;
 use std::collections::BTreeMap;
 
 /// How often each situation has to come up.

@@ -1,11 +1,12 @@
 //! The time and the stack of a call.
 use super::hours::{drawn, ALL_OPEN, ANY};
 use super::plain::{MOST_WINDOWS, WEEK};
-use super::{Report, ReportOfSchedule, Start, LIBRARY, OF_SCHEDULE, PLAIN, PLAIN_OF_SCHEDULE};
+use super::{Report, ReportOfSchedule, LIBRARY, OF_SCHEDULE, PLAIN, PLAIN_OF_SCHEDULE};
 use crate::sample::Random;
 use crate::schedule::sweeps::valid_entry;
 use crate::stack;
 use crate::timing::{Clock, Race};
+use kozbrax::Start;
 use std::hint::black_box;
 
 const ROUNDS: usize = 100;

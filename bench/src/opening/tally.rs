@@ -3,9 +3,10 @@
 use super::hours::{self, Hours, KINDS};
 use super::plain::{self, WEEK};
 use super::situations::Situations;
-use super::{sweeps, Start, LIBRARY, OF_SCHEDULE, PLAIN, PLAIN_OF_SCHEDULE};
+use super::{sweeps, LIBRARY, OF_SCHEDULE, PLAIN, PLAIN_OF_SCHEDULE};
 use crate::sample::Random;
 use crate::tally::{figures, Codes, Differences, Trial, OFTEN};
+use kozbrax::Start;
 use std::rc::Rc;
 
 /// The plain side takes its counts in all calls, and looks at each minute as well in one of so many, which are drawn, and wherever the

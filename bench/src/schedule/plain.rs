@@ -1,6 +1,6 @@
 //! Firing schedules in plain Rust, written from document 02, d, and document 01 for 19's shape, by one who had read the Rattle
 //! sources. No unsafe code.
-use super::Firing;
+use kozbrax::Firing;
 
 pub const MISSHAPEN: u32 = 19;
 pub const AGAINST_RULES: u32 = 26;

@@ -1,7 +1,8 @@
 //! Both sides on the same entries: how often each code came up, and whether the sides differed.
-use super::{Firing, LIBRARY, PLAIN};
+use super::{LIBRARY, PLAIN};
 use crate::sample::Random;
 use crate::tally::{figures, Codes, Trial};
+use kozbrax::Firing;
 
 pub struct Tally {
     random: Random,

@@ -7,24 +7,16 @@ use super::plain::{AGAINST_RULES, MISSHAPEN};
 use super::sweeps::{valid_entry, HIGHEST};
 use super::{IN_TURN, ROUNDS};
 use crate::sample::Random;
+use crate::stack;
 use crate::tally::{sweep, OFTEN};
 use crate::timing::{Clock, Race};
-use crate::{library, stack};
+use kozbrax::Totals;
 use std::hint::black_box;
 use tally::Tally;
 
-/// The code, and where it is 0 the least and the greatest total of minutes.
-#[repr(C)]
-#[derive(Clone, Copy, PartialEq, Debug)]
-pub struct Totals {
-    pub code: u32,
-    pub least: u32,
-    pub greatest: u32,
-}
-
 type Report = fn(&[u8], u32, u32) -> Totals;
 
-const LIBRARY: Report = library::schedule_warm;
+const LIBRARY: Report = kozbrax::schedule_warm;
 const PLAIN: Report = plain::report;
 
 /// A range of starts that is timed, and how often the library goes through the schedules while plain Rust does once, so that the

@@ -1,6 +1,7 @@
 //! One call with all that it is given: run on both sides, compared, and counted.
-use super::{Serve, Served, Settings, LIBRARY, PLAIN};
+use super::{Serve, LIBRARY, PLAIN};
 use crate::plain_server::{COMMIT, HASH, HEAD, NODE, OPERATION, PUT_NODE, PUT_OPERATION, RECORD, RESERVE, STATUS};
+use kozbrax::{Served, Settings};
 
 /// Bytes around each lent buffer that no side is given.
 const MARGIN: usize = 16;

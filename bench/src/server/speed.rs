@@ -1,14 +1,15 @@
 //! What a call costs: time for each stored record that it scans, a Commit beside a bare check of its signature, and stack.
 use super::case::Case;
 use super::message::{signed_body, Message};
-use super::{Serve, Served, Settings, LIBRARY, PLAIN};
+use super::{Serve, LIBRARY, PLAIN};
 use crate::lms::Key;
 use crate::plain_lms::SIGNATURE;
 use crate::plain_server::{lg, owner, COMMIT, HASH, HEAD, LAST_POSITION, LONGEST_ANSWER, NODE, OPERATION, PUT_NODE};
 use crate::plain_server::{PUT_OPERATION, RECORD, RECORD_HEADER, REQUEST_HEADER, RESERVE, SIGNED_MARK, STATUS};
 use crate::sample::Random;
 use crate::timing::{Clock, Race};
-use crate::{library, plain_lms, stack};
+use crate::{numbers, plain_lms, stack};
+use kozbrax::{Served, Settings};
 use std::cell::RefCell;
 use std::hint::black_box;
 
@@ -150,9 +151,9 @@ fn print_commit(key: &Key) {
     let check = |check: fn(&[u8], &[u8], &[u8]) -> u32| {
         black_box(check(black_box(&key.public), black_box(&text), black_box(signature)));
     };
-    let mut checks = Race::new(Clock::Processor, || check(library::lms_check));
+    let mut checks = Race::new(Clock::Processor, || check(numbers::lms_check));
     for _ in 0..ROUNDS {
-        checks.round(|| check(library::lms_check), || check(plain_lms::check));
+        checks.round(|| check(numbers::lms_check), || check(plain_lms::check));
     }
     let commits = race(case.clone(), 0);
     println!("microseconds of processor time, best and median:");

@@ -1,12 +1,11 @@
 //! One step with all that it is given: run on both sides, compared, and counted.
 use super::world::Table;
-use super::{Asked, Lent, Side, Signing, LIBRARY, PLAIN};
-use super::{CALL, HASHES, HELD, KEPT, LEAST_REQUEST, PATH};
+use super::{Side, LEAST_REQUEST, LIBRARY, PLAIN};
 use crate::lms::Key;
 use crate::plain_lms::{SIGNATURE, TREE};
 use crate::plain_server::LONGEST_ENTRY;
 use crate::sample::Random;
-use crate::server::Settings;
+use kozbrax::{Asked, Lent, Settings, Signing, CALL, HASHES, HELD, KEPT, PATH};
 
 /// Bytes around each lent buffer that no side is given.
 const MARGIN: usize = 16;

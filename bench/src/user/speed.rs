@@ -3,12 +3,13 @@ use super::case::{Case, Memory, Shared, Step, Tally};
 use super::honest::steps;
 use super::plain_tree::leaf;
 use super::world::{MadeUp, Table};
-use super::{Asked, SettledAnswer, Side, LIBRARY, PLAIN};
+use super::{Side, LIBRARY, PLAIN};
 use crate::lms::Key;
 use crate::plain_server::LAST_POSITION;
 use crate::sample::Random;
 use crate::stack;
 use crate::timing::{Clock, Race};
+use kozbrax::{Asked, SettledAnswer};
 use std::cell::RefCell;
 use std::hint::black_box;
 

@@ -3,7 +3,7 @@ use super::case::{Case, Shared, Step, Tally};
 use super::honest::steps;
 use super::plain_tree::leaf;
 use super::world::{answer_of, MadeUp, Servers, Table};
-use super::{CALL, KEPT, LEAST_REQUEST};
+use super::LEAST_REQUEST;
 use crate::lms::Key;
 use crate::plain_lms::{KEY, TREE};
 use crate::plain_server::{label, lg, owner, ANSWER_HEADER, LAST_POSITION, LONGEST_ENTRY, MOST_USERS};
@@ -11,6 +11,7 @@ use crate::plain_server::{RECORD, STATUS};
 use crate::sample::Random;
 use crate::schedule::sweeps::valid_entry;
 use crate::server::sweeps::positions;
+use kozbrax::{CALL, KEPT};
 
 const SERVERS: u32 = 4;
 

@@ -1,7 +1,6 @@
 //! Servers that answer a user: the library's, or ones made up for a log of any length.
 use super::case::Shared;
 use super::plain_tree::{digest, leaf, pair, peaks, Hash, Node};
-use crate::library;
 use crate::lms::Key;
 use crate::plain_server::{lg, owner, ANSWER_MARK, HEAD, LAST_POSITION, LONGEST_ANSWER, LONGEST_ENTRY};
 use crate::plain_server::{NODE, OPERATION, RECORD, SIGNED_MARK, STATUS};
@@ -42,7 +41,7 @@ impl Servers for Group {
         let settings = self.shared.settings(server);
         let mut answer = vec![0; LONGEST_ANSWER];
         let Server { head, store, used } = &mut self.servers[server as usize - 1];
-        let served = library::server(&settings, head, store, *used, request, &mut answer);
+        let served = kozbrax::server(&settings, head, store, *used, request, &mut answer);
         assert!(served.code <= 9, "a server in order answers");
         *used = served.used;
         answer.truncate(served.answer as usize);

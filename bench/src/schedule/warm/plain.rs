@@ -1,8 +1,8 @@
 //! The least and the greatest total time in plain Rust, written from document 02, i, by one who had read of the Rattle sources
 //! for it the export and its result alone: every whole start in the range is tried. Codes 19 and 26, the segments and their
 //! rules are those of `schedule/plain.rs`. No unsafe code.
-use super::Totals;
 use crate::schedule::plain::{self, firing_from, SEGMENT};
+use kozbrax::Totals;
 
 pub const START_REFUSED: u32 = 32;
 
