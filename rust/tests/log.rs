@@ -2,7 +2,7 @@
 mod common;
 
 use common::{servers, settings, Key, Server, User};
-use kozbrax::{code, SettledAnswer};
+use kozbrax::{code, Served, SettledAnswer, ANSWER};
 
 const FIRST: &[u8] = b"\x01first";
 const SECOND: &[u8] = b"\x01second";
@@ -68,6 +68,21 @@ fn a_strike_of_a_later_position_is_refused() {
     }
     assert_eq!(asked.code, code::ENTRY_NOT_ALLOWED, "where the Update ends");
     assert_eq!(user.version(), 1, "the version");
+}
+
+#[test]
+fn a_used_length_above_the_store_is_refused() {
+    let key = Key::new(12);
+    let (mut user, mut servers) = (User::new(), servers());
+    let asked = user.update_start(&key);
+    let request = &user.request[..asked.length as usize];
+    for used in [servers[0].store.len() as u64 + 1, 1 << 32, (1 << 32) + 1, u64::MAX] {
+        servers[0].used = used;
+        let mut answer = [0x5a; ANSWER];
+        let served = servers[0].serve_into(&key.public, request, &mut answer);
+        assert_eq!(served, Served { code: code::SETTINGS_OUT_OF_RANGE, answer: 0, used }, "used length {used}");
+        assert_eq!(answer, [0x5a; ANSWER], "the answer's buffer stays with used length {used}");
+    }
 }
 
 /// Takes a call to its end; before each answer the same with one byte changed is refused, and changes nothing. The codes of refusals.
