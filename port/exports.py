@@ -9,9 +9,14 @@ MARK = ["#", "[", "no_mangle", "]", "pub", "extern", '"C"', "fn"]
 
 C_NUMBERS = {"u8": "uint8_t", "u16": "uint16_t", "u32": "uint32_t", "u64": "uint64_t"}
 
-# A usize has 64 bits where the library is proved. `used` is compared with the store's length as one, so where a usize is shorter a `used`
-# that it does not hold is answered first, as the header says of one above store_len. No other export takes a number of 64 bits.
-WIDE_NUMBERS = {("kozbrax_server", "used"): "Served { code: 22, answer: 0, used }"}
+# A usize has 64 bits where the library is proved. Where it has fewer, two exports could meet a number that it does not hold. They begin
+# with these lines, which change nothing where it has 64:
+# - the server takes `used` as a usize; one that is too large for it is above store_len, which the header answers with 22;
+# - settled adds the wait to `position` as a usize; a position above the last one is out of range, and so is 0, which is taken for it.
+SHORT_USIZE = {
+    "kozbrax_server": ["if used > usize::MAX as u64 {", "    return Served { code: 22, answer: 0, used };", "}"],
+    "kozbrax_settled": ["let position = if usize::BITS < 64 && position > 1048576 { 0 } else { position };"],
+}
 
 
 @dataclass(frozen=True)
@@ -28,7 +33,6 @@ class Export:
     name: str
     parameters: list
     result: str
-    wide: list
 
 
 def parameter(name, kind, where):
@@ -59,7 +63,7 @@ def parameters_of(tokens, where):
 
 
 def export_at(tokens, i, where):
-    """The export whose name is at place i, and the place of the brace that opens its body."""
+    """The export whose name is at place i."""
     where = f"{where}:{tokens[i].line}"
     name, opening = tokens[i].text, neighbour(tokens, i, 1)
     if text_at(tokens, opening) != "(":
@@ -71,10 +75,9 @@ def export_at(tokens, i, where):
     body = neighbour(tokens, kind, 1)
     if text_at(tokens, arrow) != "->" or tokens[kind].kind != "word" or text_at(tokens, body) != "{":
         raise Refused(f"{where}: the export {name} has no result that is one word")
-    wide = [parameter for parameter, its_kind in pairs if its_kind == "u64"]
-    if any((name, parameter) not in WIDE_NUMBERS for parameter in wide):
-        raise Refused(f"{where}: the export {name} takes a number of 64 bits, and WIDE_NUMBERS does not say what a shorter usize does with it")
-    return Export(name, [parameter(*pair, where) for pair in pairs], tokens[kind].text, wide)
+    if name not in SHORT_USIZE and any(its_kind == "u64" for _, its_kind in pairs):
+        raise Refused(f"{where}: the export {name} takes a number of 64 bits, and SHORT_USIZE does not say what becomes of it")
+    return Export(name, [parameter(*pair, where) for pair in pairs], tokens[kind].text)
 
 
 def is_export(tokens, i):
@@ -113,8 +116,7 @@ def exported_module(found):
         lines += ["", "    #[no_mangle]", f'    pub unsafe extern "C" fn {export.name}(']
         lines += [f"        {parameter.rust}," for parameter in export.parameters]
         lines += [f"    ) -> {export.result} {{"]
-        for name in export.wide:
-            lines += [f"        if {name} > usize::MAX as u64 {{", f"            return {WIDE_NUMBERS[(export.name, name)]};", "        }"]
+        lines += [f"        {line}" for line in SHORT_USIZE.get(export.name, [])]
         lines += [f"        super::{export.name}("]
         lines += [f"            {parameter.argument}," for parameter in export.parameters]
         lines += ["        )", "    }"]

@@ -2,7 +2,7 @@
 mod common;
 
 use common::{servers, settings, Key, Server, User};
-use kozbrax::{code, Served, SettledAnswer, ANSWER};
+use kozbrax::{code, Served, Settings, SettledAnswer, ANSWER};
 
 const FIRST: &[u8] = b"\x01first";
 const SECOND: &[u8] = b"\x01second";
@@ -54,6 +54,19 @@ fn an_operation_is_settled_after_its_wait() {
     assert_eq!(settled(&user), SettledAnswer { code: 0, settled: 0 }, "with one entry");
     let (user, _) = written(&key, &[FIRST, SECOND]);
     assert_eq!(settled(&user), SettledAnswer { code: 0, settled: 1 }, "with two entries");
+}
+
+#[test]
+fn any_position_may_be_asked_for_whether_it_is_settled() {
+    let key = Key::new(13);
+    let (user, _) = written(&key, &[FIRST]);
+    for position in [0, 2, 1_048_577, u32::MAX - 1, u32::MAX] {
+        for (servers, code) in [(2, code::POSITION_OUT_OF_RANGE), (255, code::SETTINGS_OUT_OF_RANGE), (300, 22)] {
+            let settings = Settings { servers, ..settings(&key.public) };
+            let answer = kozbrax::settled(&settings, &user.kept, position);
+            assert_eq!(answer, SettledAnswer { code, settled: 0 }, "position {position}, {servers} servers");
+        }
+    }
 }
 
 #[test]
