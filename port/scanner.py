@@ -14,10 +14,11 @@ class Token:
     line: int
 
 
-# One alternative for each kind of token; a character literal is tried before a lifetime, and long symbols before short ones.
+# One alternative for each kind of token; a character literal is tried before a lifetime, and long symbols before short ones. Refused
+# are comments between /* and */ and floating-point numbers.
 TOKEN = re.compile(
     r"""(?P<comment>//[^\n]*)
-      | (?P<block_comment>/\*)
+      | (?P<refused>/\*|[0-9]+\.[0-9])
       | (?P<blank>[ \t\n]+)
       | (?P<string>b?"(?:[^"\\\n]|\\.)*")
       | (?P<character>b?'(?:[^'\\\n]|\\.)')
@@ -38,7 +39,7 @@ def scan(text, where):
     tokens, at, line = [], 0, 1
     while at < len(text):
         found = TOKEN.match(text, at)
-        if not found or found.lastgroup == "block_comment":
+        if not found or found.lastgroup == "refused":
             raise Refused(f"{where}:{line}: no known token begins with {text[at:at + 10]!r}")
         kind, end = found.lastgroup, found.end()
         if kind == "word" and found.group() == "ghost":

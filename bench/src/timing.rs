@@ -1,4 +1,6 @@
 //! Two sides timed in turns, in rounds so short that a change of the machine's pace meets both.
+use std::ffi::c_long;
+
 const ROUND_SECONDS: f64 = 0.001;
 
 /// A clock of Linux, by its number there.
@@ -12,8 +14,8 @@ pub enum Clock {
 
 #[repr(C)]
 struct Time {
-    seconds: i64,
-    nanoseconds: i64,
+    seconds: c_long,
+    nanoseconds: c_long,
 }
 
 extern "C" {
@@ -23,7 +25,7 @@ extern "C" {
 impl Clock {
     fn seconds(self) -> f64 {
         let mut time = Time { seconds: 0, nanoseconds: 0 };
-        // SAFETY: the C library that std links has this function, and `Time` is its `timespec` on x86-64 Linux.
+        // SAFETY: the C library that std links has this function, and `Time` is its `timespec` on x86-64 Linux and on 32-bit x86.
         let failed = unsafe { clock_gettime(self as i32, &mut time) };
         assert_eq!(failed, 0, "a clock that Linux has");
         time.seconds as f64 + time.nanoseconds as f64 * 1e-9
