@@ -54,7 +54,7 @@ def parameter(name, kind, where):
     return Parameter(f"{name}: {pointer} {element}, {length}: usize", ((c, name), ("size_t", length)), argument)
 
 
-def parameters_of(tokens, where):
+def parameters_of(tokens):
     """The names and types between the parentheses, without blanks in types."""
     text = joined([token for token in tokens if is_code(token)])
     # `&mut[u8]`: the blank behind `mut` went with the others, and no type of an export has another one.
@@ -69,7 +69,7 @@ def export_at(tokens, i, where):
     if text_at(tokens, opening) != "(":
         raise Refused(f"{where}: the export {name} has no parentheses behind its name")
     end = closing(tokens, opening, where)
-    pairs = parameters_of(tokens[opening + 1:end], where)
+    pairs = parameters_of(tokens[opening + 1:end])
     arrow = neighbour(tokens, end, 1)
     kind = neighbour(tokens, arrow, 1)
     body = neighbour(tokens, kind, 1)
@@ -80,8 +80,8 @@ def export_at(tokens, i, where):
     return Export(name, [parameter(*pair, where) for pair in pairs], tokens[kind].text)
 
 
-def is_export(tokens, i):
-    """Whether the tokens of code from place i on begin an exported function; if so, the places of its mark."""
+def places_of_export(tokens, i):
+    """The places of an export's mark and name, where the tokens of code from place i on begin one; else none."""
     places = []
     for text in MARK:
         if i is None or i >= len(tokens) or tokens[i].text != text:
@@ -95,7 +95,7 @@ def taken_out(tokens, where):
     """The tokens with each export as a plain `pub fn`, and the exports."""
     kept, found, skipped = [], [], set()
     for i, token in enumerate(tokens):
-        places = is_export(tokens, i) if token.text == "#" else None
+        places = places_of_export(tokens, i) if token.text == "#" else None
         if places:
             # `#[no_mangle]` and the blank behind it, and `extern "C"` with theirs, go; `pub fn` stays.
             extern = places[5]
@@ -134,6 +134,8 @@ def prototypes(header):
     found = {}
     for result, name, listed in re.findall(r"(\w+) (kozbrax_\w+)\(([^)]*)\);", text):
         parts = [re.fullmatch(r"\s*((?:const )?\w+ \*?)(\w+)\s*", part) for part in listed.split(",")]
+        if not all(parts):
+            raise Refused(f"include/kozbrax.h: the parameters of {name} are not known")
         found[name] = (result, [(part.group(1).replace(" *", "*").strip(), part.group(2)) for part in parts])
     return found
 
