@@ -84,7 +84,9 @@ pub fn make(folder: &[u8]) -> bool {
         os::fail(b"key: no random bytes");
         return false;
     }
-    let made = save_state(folder) && save_public(folder, key) && file::replace(folder, b"key.new", b"key", key);
+    let made = save_state(folder)
+        && save_public(folder, key)
+        && file::replace(folder, b"key.new", b"key", key);
     if !made {
         os::fail(b"key: the folder cannot be written");
     }

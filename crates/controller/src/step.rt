@@ -66,7 +66,15 @@ fn start(
     }
     if step.kind == 3 {
         return using::read_start(
-            n, own, &log, users, step.position, kept, call, request, entry,
+            n,
+            own,
+            &log,
+            users,
+            step.position,
+            kept,
+            call,
+            request,
+            entry,
         );
     }
     let randomizer = key::randomizer(keys, bytes::front(bytes::from(kept, 36), 4), input);
@@ -104,7 +112,17 @@ fn lent(
 ) -> Asked {
     if 0 < step.kind {
         return start(
-            g, step, users, keys, input, kept, path, call, held, request, entry,
+            g,
+            step,
+            users,
+            keys,
+            input,
+            kept,
+            path,
+            call,
+            held,
+            request,
+            entry,
         );
     }
     let log = g.log;

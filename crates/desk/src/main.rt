@@ -42,7 +42,9 @@ fn run(new: bool, at: usize) {
     let d = arguments::read_settings(first + 1, first + 2, first + 3);
     if os::arg_count() != first + 5 || !arguments::fit(d, d.servers, users) {
         report::line(b"usage: desk [new] FOLDER N OWN NAME USERS");
-        report::line(b"N from 2 to 16, OWN from 1 to N, NAME of 1 to 16 bytes, USERS a file of 1 to 64 public keys");
+        report::line(
+            b"N from 2 to 16, OWN from 1 to N, NAME of 1 to 16 bytes, USERS a file of 1 to 64 public keys",
+        );
         return;
     }
     serve_locked(d, new, bytes::front(text, n), users);

@@ -1,0 +1,71 @@
+// What a refusal asks of the person who runs the command; docs/OPERATING.md has the same table.
+use programs::print;
+
+// What to do after a code, and after the server's where the code is 11.
+pub fn after(code: u32, servers_code: u32) {
+    if code == 0 {
+        return;
+    }
+    print::text(b"  what to do: ");
+    if code == 11 {
+        of_server(servers_code);
+    } else if code < 17 {
+        alarm();
+    } else {
+        of_user(code);
+    }
+    print::text(b"\n");
+}
+
+// Servers that follow the rules do not cause this.
+fn alarm() {
+    print::text(
+        b"ALARM. Run the command once more; where it is refused again, fire nothing new, keep the folder, and compare the log with other users",
+    );
+}
+
+// After a server's own code.
+fn of_server(code: u32) {
+    if code == 4 || code == 8 {
+        print::text(
+            b"another user's write is open or came first: run the command again once it has ended; where it stays, look for that user",
+        );
+    } else if code == 9 {
+        print::text(b"a server's store is full: give it a larger one, and run the command again");
+    } else if code < 4 {
+        print::text(
+            b"compare N, the log's name, the list of users and the links with the server's",
+        );
+    } else {
+        alarm();
+    }
+}
+
+// After a code that a user gives without an alarm.
+fn of_user(code: u32) {
+    match code {
+        17 => print::text(
+            b"the key is spent: make a new key, which needs a new list of users and a new log",
+        ),
+        18 => print::text(b"run the open write's command again; then this one"),
+        19 => print::text(
+            b"mend the entry: 1 to 1,023 bytes of text, or a position from 1 to the version to strike",
+        ),
+        20 => print::text(b"the log is full: begin a new one"),
+        22 => print::text(
+            b"the state is damaged or of another log: this key must not sign any more; make a new one",
+        ),
+        23 => alarm(),
+        24 => print::text(
+            b"name a position from 1 to the version; `update` brings the version up to date",
+        ),
+        26 => print::text(b"mend the schedule"),
+        1000 => print::text(
+            b"the state could not be saved: see to the disk, and run the command again",
+        ),
+        1001 => print::text(
+            b"the server did not answer: see to its link, and run the command again",
+        ),
+        _ => print::text(b"tell the makers: this code should not come here"),
+    }
+}

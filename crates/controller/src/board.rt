@@ -1,0 +1,123 @@
+// The board: the standing insertions of the user's view, as far as 4,096 entries.
+ghost use mathlib.Core.Path.{_≡_};
+ghost use Prim.Native.Nat.{_≤_};
+ghost use lib.ListN.{length};
+use crate::command;
+use crate::show;
+use firing::entry;
+use programs::line;
+use programs::print;
+use state_files::arguments::Settings;
+
+// Reads the whole view and prints its board, or the first refusal of a read.
+pub fn draw(
+    g: Settings,
+    file: i32,
+    users: &[u8],
+    keys: &[u8],
+    memory: &mut [u8],
+    links: &mut [i32],
+) {
+    let v = show::version(memory);
+    if 4096 < v {
+        print::text(b"the board is drawn for at most 4096 entries\n");
+        return;
+    }
+    let n = line::at_most(v, 4096);
+    let mut space = [0u32; 4096];
+    let targets: &mut [u32] = &mut space;
+    if read_targets(g, file, n, users, keys, memory, links, targets) {
+        return;
+    }
+    let mut marks = [0u32; 4096];
+    let standing: &mut [u32] = &mut marks;
+    standing::board(targets, standing);
+    print_standing(g, file, n, users, keys, memory, links, standing);
+}
+
+// What stands for a target where a Read was refused.
+const REFUSED: u32 = 4294967295;
+
+// Reads an entry and answers its target, 0 for an insertion. A read that is refused is printed.
+fn read_target(
+    g: Settings,
+    file: i32,
+    position: u32,
+    users: &[u8],
+    keys: &[u8],
+    memory: &mut [u8],
+    links: &mut [i32],
+) -> u32 {
+    let asked = command::read(g, file, position, users, keys, memory, links);
+    if asked.code != 0 {
+        show::outcome(asked, memory);
+        return REFUSED;
+    }
+    entry::target(command::entry_of(asked, memory))
+}
+
+// Reads the first n entries and lays their targets into a list, 0 for an insertion. A read that is refused is printed, and ends it.
+fn read_targets(
+    g: Settings,
+    file: i32,
+    n: usize,
+    users: &[u8],
+    keys: &[u8],
+    memory: &mut [u8],
+    links: &mut [i32],
+    targets: &mut [u32],
+) -> bool
+    requires { ⌜ (n ≤ 4096) × (length (now targets) ≡ 4096) ⌝ }
+{
+    let mut k: usize = 0;
+    while k < n {
+        let p = (k % 4096) as u32 + 1;
+        let target = read_target(g, file, p, users, keys, memory, links);
+        if target == REFUSED {
+            return true;
+        }
+        targets[k] = target;
+        k += 1;
+    }
+    false
+}
+
+// Reads and prints the entry of a position, where its mark is 1. Whether the read was refused.
+fn print_marked(
+    g: Settings,
+    file: i32,
+    mark: u32,
+    position: u32,
+    users: &[u8],
+    keys: &[u8],
+    memory: &mut [u8],
+    links: &mut [i32],
+) -> bool {
+    if mark != 1 {
+        return false;
+    }
+    command::read_and_show(g, file, position, users, keys, memory, links)
+}
+
+// Prints the entries among the first n that are marked.
+fn print_standing(
+    g: Settings,
+    file: i32,
+    n: usize,
+    users: &[u8],
+    keys: &[u8],
+    memory: &mut [u8],
+    links: &mut [i32],
+    standing: &[u32],
+)
+    requires { ⌜ (n ≤ 4096) × (length (now standing) ≡ 4096) ⌝ }
+{
+    let mut k: usize = 0;
+    while k < n {
+        let p = (k % 4096) as u32 + 1;
+        if print_marked(g, file, standing[k], p, users, keys, memory, links) {
+            return;
+        }
+        k += 1;
+    }
+}

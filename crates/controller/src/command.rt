@@ -1,0 +1,162 @@
+// The commands, but for `key`.
+use crate::board;
+use crate::call;
+use crate::show;
+use crate::step;
+use crate::step::Step;
+use lent_bytes::using;
+use lent_bytes::using::Asked;
+use programs::print;
+use sha256::bytes;
+use state_files::arguments;
+use state_files::arguments::Settings;
+use state_files::user_file;
+
+// A user's Update.
+fn update(g: Settings, file: i32, users: &[u8], keys: &[u8], memory: &mut [u8], links: &mut [i32]) {
+    let start = Step {
+        kind: 1,
+        position: 0,
+    };
+    let asked = call::run(g, file, start, users, keys, b"", memory, links);
+    show::outcome(asked, memory);
+    show::open_write(memory);
+}
+
+// Notes the entry of a write in the state, unless a write is open.
+fn note_entry(e: &[u8], memory: &mut [u8]) {
+    if bytes::byte_at(memory, user_file::KEPT + 40) == 0 && e.len() <= 1024 {
+        let length = bytes::be2((e.len() % 65536) as u16);
+        bytes::put2(memory, user_file::LENGTH, &length, e);
+    }
+}
+
+// A user's Write of an entry. A write of the same entry that is open is resumed.
+fn write(
+    g: Settings,
+    file: i32,
+    users: &[u8],
+    keys: &[u8],
+    e: &[u8],
+    memory: &mut [u8],
+    links: &mut [i32],
+) {
+    note_entry(e, memory);
+    let start = Step {
+        kind: 2,
+        position: 0,
+    };
+    let asked = call::run(g, file, start, users, keys, e, memory, links);
+    show::outcome(asked, memory);
+    show::open_write(memory);
+}
+
+// Writes the text of argument 8.
+fn write_text(
+    g: Settings,
+    file: i32,
+    users: &[u8],
+    keys: &[u8],
+    memory: &mut [u8],
+    links: &mut [i32],
+) {
+    let mut room = [0u8; 2048];
+    let text: &mut [u8] = &mut room;
+    let n = os::arg(8, text);
+    if os::errno() != 0 {
+        print::text(b"code 19, the text is too long\n");
+        return;
+    }
+    let mut room_2 = [0u8; 2049];
+    let e: &mut [u8] = &mut room_2;
+    bytes::put2(e, 0, &[1], bytes::front(text, n));
+    write(
+        g,
+        file,
+        users,
+        keys,
+        bytes::front(e, n % 4096 + 1),
+        memory,
+        links,
+    );
+}
+
+// Strikes the position of argument 8.
+fn strike(g: Settings, file: i32, users: &[u8], keys: &[u8], memory: &mut [u8], links: &mut [i32]) {
+    let p = bytes::be4(arguments::number(8));
+    let e = [2, p[0], p[1], p[2], p[3]];
+    write(g, file, users, keys, &e, memory, links);
+}
+
+// A user's Read.
+pub fn read(
+    g: Settings,
+    file: i32,
+    position: u32,
+    users: &[u8],
+    keys: &[u8],
+    memory: &mut [u8],
+    links: &mut [i32],
+) -> Asked {
+    let start = Step { kind: 3, position };
+    call::run(g, file, start, users, keys, b"", memory, links)
+}
+
+// The entry that a Read found.
+pub fn entry_of(asked: Asked, memory: &[u8]) -> &[u8] {
+    bytes::front(bytes::from(memory, step::ENTRY), asked.entry as usize)
+}
+
+// Reads a position and prints it, or the refusal. Whether it was refused.
+pub fn read_and_show(
+    g: Settings,
+    file: i32,
+    position: u32,
+    users: &[u8],
+    keys: &[u8],
+    memory: &mut [u8],
+    links: &mut [i32],
+) -> bool {
+    let asked = read(g, file, position, users, keys, memory, links);
+    if asked.code == 0 {
+        show::found(position, asked.author, entry_of(asked, memory));
+        return false;
+    }
+    show::outcome(asked, memory);
+    true
+}
+
+// Whether the own operation of argument 8 is settled.
+fn settled(g: Settings, users: &[u8], memory: &[u8]) {
+    let mut kept = [0u8; 42];
+    step::load(memory, user_file::KEPT, &mut kept);
+    let log = g.log;
+    let s = using::settled(g.servers, g.own, &log, users, &kept, arguments::number(8));
+    print::number(b"code ", s.code as usize);
+    print::number(b", settled ", s.settled as usize);
+    print::text(b"\n");
+}
+
+// Runs the command of argument 7.
+pub fn run(
+    g: Settings,
+    file: i32,
+    users: &[u8],
+    keys: &[u8],
+    memory: &mut [u8],
+    links: &mut [i32],
+) {
+    if arguments::is(7, b"update") {
+        update(g, file, users, keys, memory, links);
+    } else if arguments::is(7, b"write") {
+        write_text(g, file, users, keys, memory, links);
+    } else if arguments::is(7, b"strike") {
+        strike(g, file, users, keys, memory, links);
+    } else if arguments::is(7, b"read") {
+        read_and_show(g, file, arguments::number(8), users, keys, memory, links);
+    } else if arguments::is(7, b"board") {
+        board::draw(g, file, users, keys, memory, links);
+    } else {
+        settled(g, users, memory);
+    }
+}

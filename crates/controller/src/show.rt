@@ -1,0 +1,71 @@
+// What is printed of calls, entries and the user's state.
+use crate::advice;
+use crate::call;
+use firing::entry;
+use lent_bytes::using::Asked;
+use programs::print;
+use programs::sentence;
+use sha256::bytes;
+use state_files::user_file;
+
+// The user's version.
+pub fn version(memory: &[u8]) -> u32 {
+    bytes::u32_at(memory, user_file::KEPT)
+}
+
+// What a call gave: its code and the server's, the version and the next signature number; and for a refusal what it says and what to do.
+pub fn outcome(asked: Asked, memory: &[u8]) {
+    let code = asked.code;
+    if code == call::NO_ANSWER {
+        print::number(b"no answer from server ", asked.server as usize);
+    } else if code == call::NOT_SAVED {
+        print::text(b"the state was not saved");
+    } else {
+        print::number(b"code ", code as usize);
+    }
+    if code == 11 {
+        print::number(b", the server's ", asked.refusal as usize);
+    }
+    print::number(b", version ", version(memory) as usize);
+    print::number(
+        b", next signature number ",
+        bytes::u32_at(memory, user_file::KEPT + 36) as usize,
+    );
+    print::text(b"\n");
+    if code < 256 {
+        sentence::refusal((code % 256) as u8, (asked.refusal % 256) as u8);
+    }
+    advice::after(code, asked.refusal);
+}
+
+// What an entry holds: its text, what it strikes, or that it is a schedule.
+pub fn contents(e: &[u8]) {
+    let kind = bytes::byte_at(e, 0);
+    if kind == 2 {
+        print::number(b"strikes ", entry::target(e) as usize);
+    } else if kind == 3 {
+        print::number(b"a firing schedule of ", bytes::byte_at(e, 1) as usize);
+        print::text(b" segments");
+    } else {
+        print::text(bytes::from(e, 1));
+    }
+    print::text(b"\n");
+}
+
+// An entry that was read.
+pub fn found(position: u32, author: u32, e: &[u8]) {
+    print::number(b"", position as usize);
+    print::number(b", by user ", author as usize);
+    print::text(b": ");
+    contents(e);
+}
+
+// The entry of the write that is open.
+pub fn open_write(memory: &[u8]) {
+    if bytes::byte_at(memory, user_file::KEPT + 40) != 1 {
+        return;
+    }
+    let n = bytes::u16_at(memory, user_file::LENGTH) as usize;
+    print::text(b"  open is the write of: ");
+    contents(bytes::front(bytes::from(memory, user_file::ENTRY), n));
+}
