@@ -2,8 +2,8 @@
 use mathlib.Core.Bool.{Bool, cond, not, _&&_, _||_}
 use mathlib.Core.List.{List, [], _∷_}
 use Prim.Native.Nat.{ℕ, suc, _+_, _-_, _*_}
-use lib.Dec.{leb, eqb}
-use lib.ListN.{drop}
+use lib.Dec.{leb, ltb, eqb}
+use lib.ListN.{length, drop, getD}
 
 -- A space, a tab or a byte of a line end.
 unfoldable pub isBlank : ℕ → Bool
@@ -23,6 +23,18 @@ run t (b ∷ s) = cond (t b) (suc (run t s)) 0
 -- What stands behind them.
 unfoldable pub past : (ℕ → Bool) → List ℕ → List ℕ
 past t s = drop (run t s) s
+
+-- Where the LF of the first line of s stands, or the length of s where there is none.
+unfoldable pub lineFeed : List ℕ → ℕ
+lineFeed s = run (isOther 10) s
+
+-- Whether the first line of s ends with CR and LF: there is an LF, and a CR stands before it.
+unfoldable pub endsWithReturn : List ℕ → Bool
+endsWithReturn s = ltb (lineFeed s) (length s) && eqb (getD s (lineFeed s - 1) 0) 13
+
+-- How many bytes the first line of s has without its line end, which is LF, or CR and LF, or at the end of s nothing.
+unfoldable pub lineLength : List ℕ → ℕ
+lineLength s = cond (endsWithReturn s) (lineFeed s - 1) (lineFeed s)
 
 -- The number that the digits at the front of s stand for, behind digits that stand for v.
 unfoldable pub numberFrom : ℕ → List ℕ → ℕ

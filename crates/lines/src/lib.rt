@@ -4,7 +4,7 @@ ghost use mathlib.Core.Path.{_≡_};
 ghost use Prim.Native.Nat.{_+_, _*_, _%_, _≤_, min};
 ghost use lib.Dec.{ltb};
 ghost use lib.ListN.{length, drop};
-ghost use Rattle.lines.specs.Text.{isBlank, isDigit, isOther, run, number};
+ghost use Rattle.lines.specs.Text.{isBlank, isDigit, isOther, run, number, lineLength};
 
 // A number read from a text: its value, at most 9,999,999 (a larger one counts as that), whether a digit was there, and what is
 // left is at `next`.
@@ -26,6 +26,23 @@ pub fn find(s: &[u8], b: u8) -> usize
         at += 1;
     }
     at
+}
+
+// How many bytes the first line of a text has without its line end, which is LF, or CR and LF; a last line may have none.
+pub fn line_length(text: &[u8]) -> usize
+    ensures { λ r. ⌜ r ≡ lineLength (now (text .entry)) ⌝ }
+{
+    let feed = find(text, b'\n');
+    if text.len() <= feed {
+        return feed;
+    }
+    if feed == 0 {
+        return 0;
+    }
+    if text[feed - 1] == b'\r' {
+        return feed - 1;
+    }
+    feed
 }
 
 // The first place from `at` on that is no blank.

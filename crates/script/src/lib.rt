@@ -3,8 +3,14 @@
 mod list;
 pub mod segments;
 
+ghost use mathlib.Core.Path.{_≡_};
+ghost use lib.ListN.{length};
+ghost use Rattle.script.specs.Length.{tooLong};
 use lines::Digits;
 use sha256::bytes;
+
+// How many bytes a script may have.
+pub const MOST: usize = 65536;
 
 pub enum Word {
     Servers,
@@ -58,6 +64,21 @@ struct Numbers {
     second: Digits,
     third: Digits,
     fourth: Digits,
+}
+
+// The memory that a script is read into, zero: it has one byte more than a script may have, so that a longer one is seen to be longer. The
+// `ensures` gives only the length, so that no proof computes with the list.
+pub fn memory() -> [u8; 65537]
+    ensures { λ r. ⌜ 65537 ≡ length r ⌝ }
+{
+    [0; 65537]
+}
+
+// Whether a script has more bytes than it may have.
+pub fn is_too_long(text: &[u8]) -> bool
+    ensures { λ r. ⌜ r ≡ tooLong (now (text .entry)) ⌝ }
+{
+    MOST < text.len()
 }
 
 // Whether a line says nothing: it is empty or a comment.

@@ -19,14 +19,19 @@ use programs::key;
 use sha256::bytes;
 
 fn main() {
+    let mut space = script::memory();
+    let n = io::read_full(STDIN_FILENO, &mut space);
+    let text = bytes::front(&space, n);
+    if script::is_too_long(text) {
+        report::too_long();
+        return;
+    }
     let mut memory = key::memory();
     let keys: &mut [u8] = &mut memory;
     key::make(1, keys);
     key::make(2, keys);
     key::make(3, keys);
-    let mut text = io::large_buffer();
-    let n = io::read_full(STDIN_FILENO, &mut text);
-    lines_of(bytes::front(&text, n), keys);
+    lines_of(text, keys);
 }
 
 // Runs the lines one after the other, on four servers until the script says otherwise.
@@ -38,9 +43,9 @@ fn lines_of(text: &[u8], keys: &[u8]) {
     let mut at = 0;
     while at < text.len() {
         let rest = bytes::from(text, at);
-        let n = lines::find(rest, b'\n');
+        let line = bytes::front(rest, lines::line_length(rest));
         number += 1;
-        group = run::line(bytes::front(rest, n), number, group, world, keys);
-        at += n + 1;
+        group = run::line(line, number, group, world, keys);
+        at += lines::find(rest, b'\n') + 1;
     }
 }

@@ -11,6 +11,12 @@ use script::Fault;
 use sha256::bytes;
 use tree::label;
 
+// A script that is not run, since it has more bytes than a script may have.
+pub fn too_long() {
+    print::number(b"the script is longer than ", script::MOST);
+    print::text(b" bytes, and no line of it is run\n");
+}
+
 // A line of the script, before what it does.
 pub fn echo(line: &[u8]) {
     print::text(b"> ");

@@ -1,0 +1,2 @@
+-- What the contract of a script's length cites.
+pub mod Length
