@@ -1,0 +1,65 @@
+// All places in one slice of 65,536 bytes: those of users 1 and 2, 16,384 bytes each, then those of servers 1 to 4, 8,192 each.
+ghost use Prim.Native.Nat.{_≤_};
+use crate::hex;
+use exchange::server_place;
+use programs::key;
+use programs::print;
+use sha256::bytes;
+
+pub const SERVERS: u8 = 4;
+
+// Where the place of user 1 or 2 begins.
+pub fn user_at(own: u8) -> usize
+    ensures { λ r. ⌜ r ≤ 32768 ⌝ }
+{
+    16384 * key::before(own)
+}
+
+// The place of a user.
+pub fn user(own: u8, world: &[u8]) -> &[u8] {
+    bytes::from(world, user_at(own))
+}
+
+// Where the place of server 1, 2, 3 or 4 begins.
+pub fn server_at(server: u8) -> usize
+    ensures { λ r. ⌜ r ≤ 57344 ⌝ }
+{
+    32768 + 8192 * ((server as usize + 3) % 4)
+}
+
+// How many bytes of a server's store are used.
+pub fn used(server: u8, world: &[u8]) -> usize {
+    bytes::u32_at(bytes::from(world, server_at(server)), server_place::USED) as usize
+}
+
+// The used part of a server's store from a place on.
+pub fn stored_from(server: u8, from: usize, world: &[u8]) -> &[u8] {
+    let store = bytes::from(world, server_at(server) + server_place::STORE);
+    bytes::from(bytes::front(store, used(server, world)), from)
+}
+
+// A server's head, as position, level, author and digest, and how many bytes of its store are used.
+pub fn print_server(server: u8, world: &[u8]) {
+    let place = bytes::from(world, server_at(server));
+    let mut head = [0u8; 39];
+    let rest = bytes::front(bytes::from(place, server_place::AUTHOR), 34);
+    bytes::put2(&mut head, 0, bytes::front(place, 5), rest);
+    hex::line(b"head ", &head);
+    print::number(b"used ", used(server, world));
+    print::text(b"\n");
+}
+
+// All servers at the end, with the SHA-256 of the used part of each store.
+pub fn print_servers(world: &[u8]) {
+    print_end(1, world);
+    print_end(2, world);
+    print_end(3, world);
+    print_end(4, world);
+}
+
+fn print_end(server: u8, world: &[u8]) {
+    print::number(b"\nserver ", server as usize);
+    print::text(b"\n");
+    print_server(server, world);
+    hex::line(b"hash ", &sha256::hash(stored_from(server, 0, world)));
+}
