@@ -1,2 +1,3 @@
 -- What the contracts of the text functions cite.
 pub mod Text
+pub mod Examples

@@ -39,7 +39,7 @@ pub fn update(own: u8, world: &mut [u8], keys: &[u8]) {
     end(own, world);
 }
 
-// A Write of an entry, to its end. Its randomizer is the number of its signature 32 times, plus 16.
+// A Write of an entry, to its end. Its randomizer repeats one byte, 16 plus the number of its signature.
 pub fn write(own: u8, entry: &[u8], world: &mut [u8], keys: &[u8]) {
     let number = bytes::u32_at(world::user(own, world), user_place::NUMBER) % 200 + 16;
     begin(b"\nWrite by user ", own);
@@ -103,7 +103,7 @@ fn turn(own: u8, world: &mut [u8], keys: &[u8]) {
     let mut answer = [0u8; 2552];
     let size = ask(
         server,
-        8192,
+        world::PLACE,
         bytes::front(&request, n),
         world,
         keys,
@@ -117,8 +117,8 @@ fn turn(own: u8, world: &mut [u8], keys: &[u8]) {
     );
 }
 
-// A request to a server on the first `room` bytes of its place, and what came of it, printed: the answer, the head and the used length after
-// it, and the record that was stored, where one was. Answers the answer's length.
+// A request to a server on the first `room` bytes of its place, and what came of it, printed: the answer, the head and the used length
+// after it, and the record that was stored, where one was. Hands back the answer's length.
 pub fn ask(
     server: u8,
     room: usize,
@@ -140,7 +140,7 @@ pub fn ask(
     n
 }
 
-// The call of the server. Answers the answer's length.
+// The call of the server. Hands back the answer's length.
 fn serve(
     server: u8,
     room: usize,

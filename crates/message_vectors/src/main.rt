@@ -5,6 +5,7 @@ mod hex;
 mod refused;
 mod world;
 
+use exchange::server_place;
 use programs::key;
 use programs::print;
 use sha256::bytes;
@@ -22,10 +23,10 @@ fn main() {
     world::print_servers(world);
 }
 
-// What all share: N, the log's name, and the users' keys.
+// What all share: N, the length of a store, the log's name, and the users' keys.
 fn setup(keys: &[u8]) {
     print::number(b"servers ", world::SERVERS as usize);
-    print::number(b"\nstore ", 8144);
+    print::number(b"\nstore ", world::PLACE - server_place::STORE);
     print::text(b"\n");
     hex::line(b"log ", &key::LOG);
     user(1, keys);

@@ -1,5 +1,5 @@
-// Requests beside the honest run, most of them refused: at least one for each code 1 to 9. The run has ended: the heads stand at position 5,
-// by user 1, and server 2 has leaf 5, server 3 node (5, 1), server 4 node (5, 2) and server 1 node (5, 3).
+// Requests beside the honest run, most of them refused: at least one for each code 1 to 9. The run has ended. All heads are at position 5,
+// by user 1: server 1 has node (5, 3), server 2 leaf 5, server 3 node (5, 1) and server 4 node (5, 2).
 ghost use Prim.Native.Nat.{_≤_};
 use crate::call;
 use crate::world;
@@ -45,11 +45,11 @@ fn misshapen(world: &mut [u8], keys: &[u8]) {
     let node = header(2, 1, 4, 2);
     let mut marked = status;
     bytes::put(&mut marked, 0, b"KA");
-    send(b"no bytes", 1, 8192, b"", world, keys);
+    send(b"no bytes", 1, world::PLACE, b"", world, keys);
     send(
         b"a Node of 24 bytes",
         1,
-        8192,
+        world::PLACE,
         bytes::front(&node, 24),
         world,
         keys,
@@ -57,7 +57,7 @@ fn misshapen(world: &mut [u8], keys: &[u8]) {
     send(
         b"a Node of 25 bytes",
         1,
-        8192,
+        world::PLACE,
         bytes::front(&node, 25),
         world,
         keys,
@@ -65,7 +65,7 @@ fn misshapen(world: &mut [u8], keys: &[u8]) {
     send(
         b"a Status with the mark of an answer",
         1,
-        8192,
+        world::PLACE,
         &marked,
         world,
         keys,
@@ -238,7 +238,7 @@ fn held(world: &mut [u8], keys: &[u8]) {
     );
 }
 
-// Codes 5, 6 and 7: a put of a lower position, other bytes than those stored, another digest than the reserved one, and a signature of zeros.
+// Codes 5, 6 and 7: a put of a lower position, other bytes than those stored, another digest than the reserved one, a signature of zeros.
 fn different(world: &mut [u8], keys: &[u8]) {
     ask(
         b"a PutNode of a lower position",
@@ -321,12 +321,19 @@ fn full_store(world: &mut [u8], keys: &[u8]) {
     send(
         b"the same with more bytes free",
         2,
-        8192,
+        world::PLACE,
         &request,
         world,
         keys,
     );
-    send(b"the same once more", 2, 8192, &request, world, keys);
+    send(
+        b"the same once more",
+        2,
+        world::PLACE,
+        &request,
+        world,
+        keys,
+    );
 }
 
 // A request with a body to a server.
@@ -334,7 +341,7 @@ fn ask(what: &[u8], server: u8, header: [u8; 26], body: &[u8], world: &mut [u8],
     let mut request = [0u8; 2566];
     bytes::put2(&mut request, 0, &header, body);
     let whole = bytes::front(&request, 26 + body.len());
-    send(what, server, 8192, whole, world, keys);
+    send(what, server, world::PLACE, whole, world, keys);
 }
 
 // A request of any bytes to a server, on the first `room` bytes of its place.

@@ -8,6 +8,9 @@ use sha256::bytes;
 
 pub const SERVERS: u8 = 4;
 
+// How many bytes a server's place has; its store takes all behind the first 48.
+pub const PLACE: usize = 8192;
+
 // Where the place of user 1 or 2 begins.
 pub fn user_at(own: u8) -> usize
     ensures { λ r. ⌜ r ≤ 32768 ⌝ }

@@ -36,11 +36,17 @@ sub-result c = search needs
 
 returns-3 : tie.Need-returns-3
 unfolding lineFeed endsWithReturn lineLength
-returns-3 c = rw (← c .before .before .before .before .find .ensures .0, lt-ltb _ _ (c .before .before .before .if1 .left), eq-eqb _ 13 (c .if3 .taken))
+returns-3 c =
+    let find-0 = c .before .before .before .before .find .ensures .0 in
+    let if1-left = c .before .before .before .if1 .left in
+    rw (← find-0, lt-ltb _ _ if1-left, eq-eqb _ 13 (c .if3 .taken))
 
 returns-4 : tie.Need-returns-4
 unfolding lineFeed endsWithReturn lineLength
-returns-4 c = rw (← c .before .before .before .before .find .ensures .0, lt-ltb _ _ (c .before .before .before .if1 .left), ne-eqb _ 13 (c .if3 .left))
+returns-4 c =
+    let find-0 = c .before .before .before .before .find .ensures .0 in
+    let if1-left = c .before .before .before .if1 .left in
+    rw (← find-0, lt-ltb _ _ if1-left, ne-eqb _ 13 (c .if3 .left))
 
 pub line-length-spec : {M : Type 1} → statement M
 line-length-spec =
