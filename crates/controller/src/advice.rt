@@ -49,7 +49,7 @@ fn of_user(code: u32) {
         ),
         18 => print::text(b"run the open write's command again; then this one"),
         19 => print::text(
-            b"mend the entry: 1 to 1,023 bytes of text, or a position from 1 to the version to strike",
+            b"mend the entry: at most 1,023 bytes of text, or a position from 1 to the version to strike",
         ),
         20 => print::text(b"the log is full: begin a new one"),
         22 => print::text(
