@@ -20,7 +20,7 @@ pub fn after(code: u32, servers_code: u32) {
 // Servers that follow the rules do not cause this.
 fn alarm() {
     print::text(
-        b"ALARM. Run the command once more; where it is refused again, fire nothing new, keep the folder, and compare the log with other users",
+        b"ALARM. Run the command once more; where it is refused again, fire nothing new, keep the folder, compare with other users",
     );
 }
 

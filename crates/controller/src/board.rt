@@ -32,6 +32,8 @@ pub fn draw(
     let mut marks = [0u32; 4096];
     let standing: &mut [u32] = &mut marks;
     standing::board(targets, standing);
+    print::number(b"of ", n);
+    print::text(b" entries these insertions stand:\n");
     print_standing(g, file, n, users, keys, memory, links, standing);
 }
 

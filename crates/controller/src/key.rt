@@ -1,5 +1,5 @@
-// A user's key, in the file `key` of its folder: identifier (16 bytes), seed (32), second secret (32), key tree (65,504) and a check (32). The
-// second secret is for randomizers. The public key is in the file `public`.
+// A user's key, in the file `key` of its folder: identifier (16 bytes), seed (32), second secret (32), key tree (65,504) and a check (32).
+// The second secret is for randomizers. The public key is in the file `public`.
 ghost use mathlib.Core.Path.{_≡_};
 ghost use lib.ListN.{length};
 use sha256::bytes;
@@ -71,8 +71,8 @@ fn save_public(folder: &[u8], key: &[u8]) -> bool {
     file::replace(folder, b"public.new", b"public", public)
 }
 
-// Makes the key of a folder that has none, with a state in which nothing is signed, and answers whether it did. The state comes first: a key
-// is never there without it.
+// Makes the key of a folder that has none, with a state in which nothing is signed, and answers whether it did. The state comes first: a
+// key is never there without it.
 pub fn make(folder: &[u8]) -> bool {
     if !file::is_missing(folder, b"key") {
         report::line(b"key: the folder has a key already, or cannot be read");

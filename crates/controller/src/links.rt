@@ -1,6 +1,6 @@
-// The links to the servers: for server K the files LINKSK.in, to which requests are written, and LINKSK.out, from which answers are read, where
-// LINKS is argument 6.
-// A link is opened when its server is first asked: the file for requests first, since a server on named pipes opens its input first.
+// The links to the servers: for server K the files LINKSK.in, to which requests are written, and LINKSK.out, from which answers are read,
+// where LINKS is argument 6. A link is opened when its server is first asked: the file for requests first, since a server on named pipes
+// opens its input first.
 use frames::Frame;
 use sha256::bytes;
 

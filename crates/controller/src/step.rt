@@ -1,5 +1,5 @@
-// A step of a user's call: its start, or an answer that it takes in. The user's memory is one slice of 14,586 bytes: its state (`user_file`),
-// the state as it was saved last, the call, its hashes, the held entry, the request and the entry that is read.
+// A step of a user's call: its start, or an answer that it takes in. The user's memory is one slice of 14,586 bytes: its state
+// (`user_file`), the state as it was saved last, the call, its hashes, the held entry, the request and the entry that is read.
 use crate::key;
 use lent_bytes::taking;
 use lent_bytes::using;

@@ -1,5 +1,5 @@
-// A server of a log over standard input and output, its head and store in a folder: docs/OPERATING.md. An answer leaves once what it promises
-// is on the folder's device.
+// A server of a log over standard input and output, its head and store in a folder: docs/OPERATING.md. An answer leaves once what it
+// promises is on the folder's device.
 mod log;
 mod serve;
 
@@ -13,8 +13,8 @@ use state_files::lock;
 use state_files::report;
 use state_files::setup;
 
-// The memory of the store, zero: the largest that fits a stack of 8 MiB with the rest. The `ensures` gives only the length, so that no proof
-// computes with the list.
+// The memory of the store, zero: the largest that fits a stack of 8 MiB with the rest. The `ensures` gives only the length, so that no
+// proof computes with the list.
 fn zeros() -> [u8; 4194304]
     ensures { λ r. ⌜ 4194304 ≡ length r ⌝ }
 {

@@ -5,7 +5,8 @@ use Rattle.controller.proofs.call.run.Statement.{statement}
 use Rattle.controller.proofs.call.run.Tie as tie
 
 abbrev Inv-loop : tie.InvT-loop
-Inv-loop g file users keys input memory₀ links₀ asked₀ left₀ memory links asked left = (length memory ≡ length memory₀) × (length links ≡ length links₀)
+Inv-loop g file users keys input memory₀ links₀ asked₀ left₀ memory links asked left =
+    (length memory ≡ length memory₀) × (length links ≡ length links₀)
 
 abbrev μ-loop : tie.MeasureT-loop
 μ-loop g file users keys input memory₀ links₀ asked₀ left₀ memory links asked left = left
