@@ -1,8 +1,9 @@
-// The arguments that programs of a log share: N, the own number, the log's name and the file of the users' public keys, one after the other.
+// The arguments that programs of a log share: N, the own number, the log's name and the file of the users' public keys, one after the
+// other.
 use sha256::bytes;
 
-// What a log is set up with: N, the own number, the log's name, filled up with zeros, and the name's length. A number that is misshapen is 0,
-// as is the length of a name that is too long.
+// What a log is set up with: N, the own number, the log's name, filled up with zeros, and the name's length. A number that is misshapen is
+// 0, as is the length of a name that is too long.
 pub struct Settings {
     pub servers: u32,
     pub own: u32,

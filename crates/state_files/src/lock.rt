@@ -1,5 +1,5 @@
-// A folder's lock: a file `lock` with the number of the process that works in the folder. A process that was killed leaves it behind, and the
-// next one takes it over; `lock.taking` sees to it that only one does.
+// A folder's lock: a file `lock` with the number of the process that works in the folder. A process that was killed leaves it behind, and
+// the next one takes it over; `lock.taking` sees to it that only one does.
 ghost use mathlib.Core.Path.{_≡_};
 use crate::file;
 use crate::report;

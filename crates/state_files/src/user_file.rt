@@ -1,5 +1,5 @@
-// The file `state` of a user: slot 1 at byte 0 and slot 2 at byte 8,192. A slot of 4,320 bytes has the state's number, the setup's hash, what
-// the user keeps with path and signature, the entry of its last write with its length, and the check.
+// The file `state` of a user: slot 1 at byte 0 and slot 2 at byte 8,192. A slot of 4,320 bytes has the state's number, the setup's hash,
+// what the user keeps with path and signature, the entry of its last write with its length, and the check.
 use crate::file;
 use crate::slot;
 
@@ -26,8 +26,8 @@ pub fn save(fd: i32, s: &mut [u8]) -> bool {
     libc::fsync(fd) == 0
 }
 
-// Loads the state that counts to s, and answers whether there is one. A file that cannot be read whole has none: a slot that was not read is
-// not taken for one that was cut.
+// Loads the state that counts to s, and answers whether there is one. A file that cannot be read whole has none: a slot that was not read
+// is not taken for one that was cut.
 pub fn load(fd: i32, s: &mut [u8]) -> bool {
     let mut room = [0u8; 4320];
     let mut room_2 = [0u8; 4320];
