@@ -33,7 +33,7 @@ class Server:
         for end in self.ends:
             os.mkfifo(end)
         line = 'tee -p -a "$1" < "$2" | "${@:4}" > "$3" 2>> "$1.said"'
-        self.session = subprocess.Popen(["bash", "-c", line, "desk", path("trace", self.number)] + self.ends + [DESK] + self.words,
+        self.pipeline = subprocess.Popen(["bash", "-c", line, "desk", path("trace", self.number)] + self.ends + [DESK] + self.words,
                                         stderr=subprocess.DEVNULL)
 
     def kill(self):
@@ -48,7 +48,7 @@ class Server:
     def end(self):
         """Waits until the desk has ended, as it does when its input ends. One that no controller has asked is let go by opening its link."""
         end = time.time() + 30
-        while self.session.poll() is None:
+        while self.pipeline.poll() is None:
             assert time.time() < end, "a desk does not end with its input"
             held = [os.open(name, os.O_RDWR | os.O_NONBLOCK) for name in self.ends]
             os.close(held[0])
@@ -173,7 +173,7 @@ def main():
         assert boards[0] == boards[1]
     finally:
         for server in log.servers:
-            server.session.kill()
+            server.pipeline.kill()
     print("%d entries, %d kills, %d commands that had to be run again, %d signatures with as many numbers; all read back by both users"
           % (len(log.entries), log.killed, log.cut, signatures()))
     shutil.rmtree(WORK)
