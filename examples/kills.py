@@ -89,7 +89,7 @@ class Log:
         clear_lock(path("user", user))
         for server in self.servers:
             server.end()
-        return out.decode() + said.decode()
+        return out.decode() + "".join(line for line in said.decode().splitlines(True) if "not whole: OPERATING, Files" not in line)
 
     def until_done(self, user, *words):
         """Runs a command again until it is done: code 0, or what a read prints."""

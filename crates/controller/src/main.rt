@@ -119,7 +119,7 @@ fn run_state(g: Settings, fd: i32, users: &[u8], keys: &[u8]) {
     command::run(g, fd, users, keys, m, links);
 }
 
-// Loads the state that counts, and binds one of no log yet to this. Whether it is there and of this log.
+// Loads the state that counts. Whether it is there and of this log.
 fn load(g: Settings, fd: i32, users: &[u8], memory: &mut [u8]) -> bool {
     let mut room = [0u8; 4320];
     let state: &mut [u8] = &mut room;
@@ -134,10 +134,13 @@ fn load(g: Settings, fd: i32, users: &[u8], memory: &mut [u8]) -> bool {
     bind(mark, memory)
 }
 
-// Binds the state to a setup where it has none. Whether it is of this setup then.
+// Binds the state to a setup where nothing is accepted or signed yet. Whether it is of this setup then.
 fn bind(mark: [u8; 32], memory: &mut [u8]) -> bool {
-    let none = [0u8; 32];
-    if bytes::same(setup_of(memory), &none) {
+    let none = [0u8; 42];
+    if bytes::same(
+        bytes::front(bytes::from(memory, user_file::KEPT), 42),
+        &none,
+    ) {
         bytes::put(memory, user_file::SETUP, &mark);
         return true;
     }

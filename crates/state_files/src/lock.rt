@@ -63,13 +63,13 @@ pub fn take(folder: &[u8]) -> bool {
     }
     if !is_left_behind(folder) {
         report::line(
-            b"the folder's lock names a process that lives, or the folder cannot be written; see OPERATING, Lock",
+            b"the folder's lock names a process that lives, or cannot be read, or the folder cannot be written: OPERATING, Lock",
         );
         return false;
     }
     if !make(folder, b"lock.taking") {
         report::line(
-            b"another process takes the lock over, or was killed while it did; see OPERATING, Lock",
+            b"another process takes the lock over, or was killed while it did: OPERATING, Lock",
         );
         return false;
     }

@@ -1,6 +1,7 @@
 // The file `state` of a user: slot 1 at byte 0 and slot 2 at byte 8,192. A slot of 4,320 bytes has the state's number, the setup's hash,
 // what the user keeps with path and signature, the entry of its last write with its length, and the check.
 use crate::file;
+use crate::report;
 use crate::slot;
 
 pub const SETUP: usize = 8;
@@ -41,5 +42,6 @@ pub fn load(fd: i32, s: &mut [u8]) -> bool {
     }
     let one = slot::is_whole(first, b"");
     let two = slot::is_whole(second, b"");
+    report::cut_slots(first, one, second, two);
     slot::choose(first, one, second, two, s)
 }
