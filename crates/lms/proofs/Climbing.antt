@@ -12,7 +12,8 @@ use borrow.Author.Tests.{eqb-true, ltb-true}
 use Rattle.sha256.specs.Bytes.{numberAt}
 use Rattle.lms.specs.declared.Ots.{Ots}
 use Rattle.lms.specs.declared.Lms.{Lms}
-use Rattle.lms.specs.Types.{OtsRow, LMOTS_SHA256_N32_W4}
+use Rattle.lms.specs.Types.{LMOTS_SHA256_N32_W4}
+use Rattle.lms.specs.Inner.{OtsRow}
 use Rattle.lms.specs.Signature.{pathNode, signatureSize}
 use Rattle.lms.specs.Check.{above, climb, keyFits, typePlace, signatureFits}
 use Rattle.lms.proofs.Nodes.{path-node-in}

@@ -6,7 +6,7 @@ use Prim.Native.Nat.{ℕ, zero, suc, _+_, _-_, _*_, _%_, _^_, _≤_, _<_}
 use native.Mathlib.Nat.{pow-suc, eq-or-lt-of-le}
 use native.Mathlib.Omega.{arith}
 use borrow.Author.Tests.{le-leb, lt-leb}
-use lib.Pow.{pow-mono}
+use lib.Pow.{pow-pos, pow-mono}
 use lib.ListN.{length, take, drop, take-append-drop}
 use lib.Seq.{take-add}
 use Rattle.sha256.specs.Bytes.{written}
@@ -32,6 +32,15 @@ height-held-32 h g = omega (arith, height-most h g)
 
 pub nodes-held : (h : ℕ) → h ≤ 25 → 2 * 2 ^ h % 18446744073709551616 ≡ 2 ^ suc h
 nodes-held h g = omega (arith, height-most h g, pow-suc 2 h)
+
+-- the number of the last node of a tree
+pub last-node : (h : ℕ) → h ≤ 25 → let n = 2 * 2 ^ h % 18446744073709551616 in (1 ≤ n) × ((n - 1 < 2 ^ suc h) × (n - 1 < 67108864))
+last-node h g =
+    let all = nodes-held h g in
+    let most = height-most h g in
+    let z = pow-pos h in
+    let two = pow-suc 2 h in
+    (omega arith, (omega arith, omega arith))
 
 -- the parts of 32 bytes of a string, joined again
 parts-joined : (t : List ℕ) (n : ℕ) → cat (λ i. take 32 (drop (32 * i) t)) n ≡ take (32 * n) t

@@ -35,7 +35,8 @@ keyFits o l key = eqb (length key) (24 + 32) && (eqb (numberAt 4 key 0) (l .lmst
 unfoldable pub typePlace : Ots → ℕ
 typePlace o = 8 + 32 * (o .p + 1)
 
--- Algorithm 6a, steps 1 and 2: exact length (1, d, i), types (c, g) and number (i). Algorithm 4b's own tests, its steps 1 and 2, are c and d again.
+-- Algorithm 6a, steps 1 and 2: exact length (1, d, i), types (c, g) and number (i).
+-- Algorithm 4b's own tests, its steps 1 and 2, are c and d again.
 unfoldable pub signatureFits : Ots → Lms → List ℕ → Bool
 signatureFits o l s =
     eqb (length s) (signatureSize o l)

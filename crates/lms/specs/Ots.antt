@@ -23,7 +23,8 @@ Cksm o S = u16str (sumTo (o .w) S (32 * 8 / o .w) * 2 ^ o .ls)
 unfoldable pub digit : Ots → List ℕ → ℕ → ℕ
 digit o Q i = coef (Q ++ Cksm o Q) i (o .w)
 
--- Algorithms 1, 3 and 4b: k turns from j = a on of tmp = H(I || u32str(q) || u16str(i) || u8str(j) || tmp), where m is the string before u8str(j).
+-- Algorithms 1, 3 and 4b: k turns from j = a on of tmp = H(I || u32str(q) || u16str(i) || u8str(j) || tmp),
+-- where m is the string before u8str(j).
 unfoldable pub chain : List ℕ → ℕ → ℕ → List ℕ → List ℕ
 chain m a zero tmp = tmp
 chain m a (suc k) tmp = sha256 (m ++ u8str (a + k) ++ chain m a k tmp)

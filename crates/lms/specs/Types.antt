@@ -1,7 +1,7 @@
 -- RFC 8554: strings of numbers, the parameter sets' tables, the values that tell the hashed strings apart.
 -- The hash is SHA-256 and n = m = 32 in each set named here.
 use mathlib.Core.List.{List, [], _++_}
-use Prim.Native.Nat.{ℕ, zero, suc, _<_, _≤_}
+use Prim.Native.Nat.{ℕ, zero, suc}
 use Rattle.sha256.specs.Bytes.{be}
 use Rattle.lms.specs.declared.Ots.{Ots}
 use Rattle.lms.specs.declared.Lms.{Lms}
@@ -41,13 +41,6 @@ LMS_SHA256_M32_H5 = record { lmstype = 5; h = 5 }
 abbrev pub LMS_SHA256_M32_H10 : Lms
 LMS_SHA256_M32_H10 = record { lmstype = 6; h = 10 }
 
--- Bounds that every row of Table 1 meets. The greatest height of Table 2 is 25.
-pub record OtsRow (o : Ots) : Type 0 where
-  pub w-some : 0 < o .w
-  pub w-most : o .w ≤ 8
-  pub p-most : o .p ≤ 265
-  pub ls-most : o .ls ≤ 7
-
 -- Section 7.1: the values between the hashed strings' numbers and their contents.
 abbrev pub D_PBLC : ℕ
 D_PBLC = 0x8080
@@ -61,6 +54,7 @@ D_LEAF = 0x8282
 abbrev pub D_INTR : ℕ
 D_INTR = 0x8383
 
--- I || u32str(q) || u16str(i): every hashed string begins so, with a key's or a node's number and a chain's number or one of the values above.
+-- I || u32str(q) || u16str(i): every hashed string begins so, with a key's or a node's number and a chain's number or one of the
+-- values above.
 unfoldable pub prefix : List ℕ → ℕ → ℕ → List ℕ
 prefix I q i = I ++ u32str q ++ u16str i

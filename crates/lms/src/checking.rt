@@ -3,7 +3,7 @@ ghost use mathlib.Core.Path.{_≡_};
 ghost use mathlib.Core.Bool.{true};
 ghost use Prim.Native.Nat.{_≤_};
 ghost use lib.ListN.{length, take, drop};
-ghost use Rattle.lms.specs.Types.{OtsRow};
+ghost use Rattle.lms.specs.Inner.{OtsRow};
 ghost use Rattle.lms.specs.Check.{above as aboveOf, climb as climbOf, keyFits, signatureFits, rootOf, checkOf};
 use crate::Checked;
 use crate::Lms;

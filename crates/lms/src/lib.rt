@@ -95,7 +95,8 @@ pub fn sign(
     place: &mut [u8],
 ) -> u32
     ensures { λ r. ⌜ (r ≡ signCode LMOTS_SHA256_N32_W4 LMS_SHA256_M32_H10 number (now (nodes .entry)) (now (place .entry)))
-        × (now (place .exit) ≡ signed LMOTS_SHA256_N32_W4 LMS_SHA256_M32_H10 id seed number randomizer (now (text .entry)) (now (nodes .entry)) (now (place .entry))) ⌝ }
+        × (now (place .exit) ≡ signed LMOTS_SHA256_N32_W4 LMS_SHA256_M32_H10 id seed number randomizer
+        (now (text .entry)) (now (nodes .entry)) (now (place .entry))) ⌝ }
 {
     if nodes.len() < 65504 {
         return 21;

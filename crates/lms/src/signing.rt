@@ -4,7 +4,8 @@ ghost use Prim.Native.Nat.{_+_, _*_, _^_, _≤_, _<_};
 ghost use lib.ListN.{length};
 ghost use Rattle.sha256.specs.Bytes.{written};
 ghost use Rattle.sha256.specs.Hash.{bytes as bytesOf};
-ghost use Rattle.lms.specs.Types.{OtsRow, cat};
+ghost use Rattle.lms.specs.Types.{cat};
+ghost use Rattle.lms.specs.Inner.{OtsRow};
 ghost use Rattle.lms.specs.Ots.{opened};
 ghost use Rattle.lms.specs.Tree.{treeSize};
 ghost use Rattle.lms.specs.Signature.{path, signature as signatureOf, signatureSize};
@@ -63,8 +64,10 @@ pub fn signature(
     tree: &[u8],
     place: &mut [u8],
 )
-    requires { ⌜ OtsRow o × ((l .h ≤ 25) × ((q < 2 ^ l .h) × ((treeSize (l .h) ≤ length (now tree)) × (signatureSize o l ≤ length (now place))))) ⌝ }
-    ensures { λ _. ⌜ now (place .exit) ≡ written (now (place .entry)) 0 (signatureOf o l id (bytesOf seed) q c (now (text .entry)) (now (tree .entry))) ⌝ }
+    requires { ⌜ OtsRow o × ((l .h ≤ 25) × ((q < 2 ^ l .h) × ((treeSize (l .h) ≤ length (now tree))
+        × (signatureSize o l ≤ length (now place))))) ⌝ }
+    ensures { λ _. ⌜ now (place .exit)
+        ≡ written (now (place .entry)) 0 (signatureOf o l id (bytesOf seed) q c (now (text .entry)) (now (tree .entry))) ⌝ }
 {
     let end = 40 + 32 * o.p;
     let t = onetime::text_hash(id, q, &c, text);

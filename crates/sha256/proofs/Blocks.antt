@@ -9,7 +9,7 @@ use lib.Seq.{take-at, drop-append-le, drop-append-add, set-at}
 use Rattle.sha256.specs.Bytes.{numberAt, written}
 use Rattle.sha256.specs.Block.{compress}
 use Rattle.sha256.specs.Hash.{words, block, hashValue}
-use Rattle.sha256.specs.Stream.{rest}
+use Rattle.sha256.specs.Inner.{rest}
 use Rattle.sha256.proofs.Laws.{written-fits}
 
 -- what stands after the bytes that are read does not matter

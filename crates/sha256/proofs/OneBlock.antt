@@ -51,7 +51,8 @@ abbrev prefix : ℕ → ℕ → ℕ → ℕ → ℕ → ℕ → List ℕ
 prefix p0 p1 p2 p3 p4 p5 = take 22 (bytes (p0 ∷ p1 ∷ p2 ∷ p3 ∷ p4 ∷ p5 ∷ []))
 
 module _ (p0 p1 p2 p3 p4 p5 j x0 x1 x2 x3 x4 x5 x6 x7 : ℕ) where
-  laid-is : prefix p0 p1 p2 p3 p4 p5 ++ be 1 j ++ bytes (x0 ∷ x1 ∷ x2 ∷ x3 ∷ x4 ∷ x5 ∷ x6 ∷ x7 ∷ []) ++ (128 ∷ be 8 440) ≡ laid p0 p1 p2 p3 p4 p5 j x0 x1 x2 x3 x4 x5 x6 x7
+  laid-is : prefix p0 p1 p2 p3 p4 p5 ++ be 1 j ++ bytes (x0 ∷ x1 ∷ x2 ∷ x3 ∷ x4 ∷ x5 ∷ x6 ∷ x7 ∷ []) ++ (128 ∷ be 8 440)
+      ≡ laid p0 p1 p2 p3 p4 p5 j x0 x1 x2 x3 x4 x5 x6 x7
   unfolding be bytes
   laid-is = simp div-one
 
@@ -61,28 +62,37 @@ module _ (p0 p1 p2 p3 p4 p5 j x0 x1 x2 x3 x4 x5 x6 x7 : ℕ) where
 
   -- the sixteen words of the block
   words-laid : words 16 (laid p0 p1 p2 p3 p4 p5 j x0 x1 x2 x3 x4 x5 x6 x7)
-      ≡ p0 % 2 ^ 32 ∷ p1 % 2 ^ 32 ∷ p2 % 2 ^ 32 ∷ p3 % 2 ^ 32 ∷ p4 % 2 ^ 32 ∷ (p5 / 2 ^ 16 % 2 ^ 16 * 2 ^ 16 + j % 256 * 256 + x0 / 2 ^ 24 % 256) ∷ (x0 % 2 ^ 24 * 256 + x1 / 2 ^ 24 % 256) ∷ (x1 % 2 ^ 24 * 256 + x2 / 2 ^ 24 % 256) ∷ (x2 % 2 ^ 24 * 256 + x3 / 2 ^ 24 % 256) ∷ (x3 % 2 ^ 24 * 256 + x4 / 2 ^ 24 % 256) ∷ (x4 % 2 ^ 24 * 256 + x5 / 2 ^ 24 % 256) ∷ (x5 % 2 ^ 24 * 256 + x6 / 2 ^ 24 % 256) ∷ (x6 % 2 ^ 24 * 256 + x7 / 2 ^ 24 % 256) ∷ (x7 % 2 ^ 24 * 256 + 2147483648 / 2 ^ 24 % 256) ∷ 0 ∷ 440 ∷ []
+      ≡ p0 % 2 ^ 32 ∷ p1 % 2 ^ 32 ∷ p2 % 2 ^ 32 ∷ p3 % 2 ^ 32 ∷ p4 % 2 ^ 32
+      ∷ (p5 / 2 ^ 16 % 2 ^ 16 * 2 ^ 16 + j % 256 * 256 + x0 / 2 ^ 24 % 256) ∷ (x0 % 2 ^ 24 * 256 + x1 / 2 ^ 24 % 256)
+      ∷ (x1 % 2 ^ 24 * 256 + x2 / 2 ^ 24 % 256) ∷ (x2 % 2 ^ 24 * 256 + x3 / 2 ^ 24 % 256) ∷ (x3 % 2 ^ 24 * 256 + x4 / 2 ^ 24 % 256)
+      ∷ (x4 % 2 ^ 24 * 256 + x5 / 2 ^ 24 % 256) ∷ (x5 % 2 ^ 24 * 256 + x6 / 2 ^ 24 % 256) ∷ (x6 % 2 ^ 24 * 256 + x7 / 2 ^ 24 % 256)
+      ∷ (x7 % 2 ^ 24 * 256 + 2147483648 / 2 ^ 24 % 256) ∷ 0 ∷ 440 ∷ []
   unfolding words
   words-laid =
-      let e0 : numberAt 4 (laid p0 p1 p2 p3 p4 p5 j x0 x1 x2 x3 x4 x5 x6 x7) 0 ≡ p0 % 2 ^ 32 = number-four (laid p0 p1 p2 p3 p4 p5 j x0 x1 x2 x3 x4 x5 x6 x7) 0 ∙ word-again p0 in
-      let e1 : numberAt 4 (laid p0 p1 p2 p3 p4 p5 j x0 x1 x2 x3 x4 x5 x6 x7) 4 ≡ p1 % 2 ^ 32 = number-four (laid p0 p1 p2 p3 p4 p5 j x0 x1 x2 x3 x4 x5 x6 x7) 4 ∙ word-again p1 in
-      let e2 : numberAt 4 (laid p0 p1 p2 p3 p4 p5 j x0 x1 x2 x3 x4 x5 x6 x7) 8 ≡ p2 % 2 ^ 32 = number-four (laid p0 p1 p2 p3 p4 p5 j x0 x1 x2 x3 x4 x5 x6 x7) 8 ∙ word-again p2 in
-      let e3 : numberAt 4 (laid p0 p1 p2 p3 p4 p5 j x0 x1 x2 x3 x4 x5 x6 x7) 12 ≡ p3 % 2 ^ 32 = number-four (laid p0 p1 p2 p3 p4 p5 j x0 x1 x2 x3 x4 x5 x6 x7) 12 ∙ word-again p3 in
-      let e4 : numberAt 4 (laid p0 p1 p2 p3 p4 p5 j x0 x1 x2 x3 x4 x5 x6 x7) 16 ≡ p4 % 2 ^ 32 = number-four (laid p0 p1 p2 p3 p4 p5 j x0 x1 x2 x3 x4 x5 x6 x7) 16 ∙ word-again p4 in
-      let e5 : numberAt 4 (laid p0 p1 p2 p3 p4 p5 j x0 x1 x2 x3 x4 x5 x6 x7) 20 ≡ p5 / 2 ^ 16 % 2 ^ 16 * 2 ^ 16 + j % 256 * 256 + x0 / 2 ^ 24 % 256 = number-four (laid p0 p1 p2 p3 p4 p5 j x0 x1 x2 x3 x4 x5 x6 x7) 20 ∙ omega arith in
-      let e6 : numberAt 4 (laid p0 p1 p2 p3 p4 p5 j x0 x1 x2 x3 x4 x5 x6 x7) 24 ≡ x0 % 2 ^ 24 * 256 + x1 / 2 ^ 24 % 256 = number-four (laid p0 p1 p2 p3 p4 p5 j x0 x1 x2 x3 x4 x5 x6 x7) 24 ∙ omega arith in
-      let e7 : numberAt 4 (laid p0 p1 p2 p3 p4 p5 j x0 x1 x2 x3 x4 x5 x6 x7) 28 ≡ x1 % 2 ^ 24 * 256 + x2 / 2 ^ 24 % 256 = number-four (laid p0 p1 p2 p3 p4 p5 j x0 x1 x2 x3 x4 x5 x6 x7) 28 ∙ omega arith in
-      let e8 : numberAt 4 (laid p0 p1 p2 p3 p4 p5 j x0 x1 x2 x3 x4 x5 x6 x7) 32 ≡ x2 % 2 ^ 24 * 256 + x3 / 2 ^ 24 % 256 = number-four (laid p0 p1 p2 p3 p4 p5 j x0 x1 x2 x3 x4 x5 x6 x7) 32 ∙ omega arith in
-      let e9 : numberAt 4 (laid p0 p1 p2 p3 p4 p5 j x0 x1 x2 x3 x4 x5 x6 x7) 36 ≡ x3 % 2 ^ 24 * 256 + x4 / 2 ^ 24 % 256 = number-four (laid p0 p1 p2 p3 p4 p5 j x0 x1 x2 x3 x4 x5 x6 x7) 36 ∙ omega arith in
-      let e10 : numberAt 4 (laid p0 p1 p2 p3 p4 p5 j x0 x1 x2 x3 x4 x5 x6 x7) 40 ≡ x4 % 2 ^ 24 * 256 + x5 / 2 ^ 24 % 256 = number-four (laid p0 p1 p2 p3 p4 p5 j x0 x1 x2 x3 x4 x5 x6 x7) 40 ∙ omega arith in
-      let e11 : numberAt 4 (laid p0 p1 p2 p3 p4 p5 j x0 x1 x2 x3 x4 x5 x6 x7) 44 ≡ x5 % 2 ^ 24 * 256 + x6 / 2 ^ 24 % 256 = number-four (laid p0 p1 p2 p3 p4 p5 j x0 x1 x2 x3 x4 x5 x6 x7) 44 ∙ omega arith in
-      let e12 : numberAt 4 (laid p0 p1 p2 p3 p4 p5 j x0 x1 x2 x3 x4 x5 x6 x7) 48 ≡ x6 % 2 ^ 24 * 256 + x7 / 2 ^ 24 % 256 = number-four (laid p0 p1 p2 p3 p4 p5 j x0 x1 x2 x3 x4 x5 x6 x7) 48 ∙ omega arith in
-      let e13 : numberAt 4 (laid p0 p1 p2 p3 p4 p5 j x0 x1 x2 x3 x4 x5 x6 x7) 52 ≡ x7 % 2 ^ 24 * 256 + 2147483648 / 2 ^ 24 % 256 = number-four (laid p0 p1 p2 p3 p4 p5 j x0 x1 x2 x3 x4 x5 x6 x7) 52 ∙ omega arith in
-      let e14 : numberAt 4 (laid p0 p1 p2 p3 p4 p5 j x0 x1 x2 x3 x4 x5 x6 x7) 56 ≡ 0 = number-four (laid p0 p1 p2 p3 p4 p5 j x0 x1 x2 x3 x4 x5 x6 x7) 56 ∙ omega arith in
-      let e15 : numberAt 4 (laid p0 p1 p2 p3 p4 p5 j x0 x1 x2 x3 x4 x5 x6 x7) 60 ≡ 440 = number-four (laid p0 p1 p2 p3 p4 p5 j x0 x1 x2 x3 x4 x5 x6 x7) 60 ∙ omega arith in
+      let m : List ℕ = laid p0 p1 p2 p3 p4 p5 j x0 x1 x2 x3 x4 x5 x6 x7 in
+      let e0 : numberAt 4 m 0 ≡ p0 % 2 ^ 32 = number-four m 0 ∙ word-again p0 in
+      let e1 : numberAt 4 m 4 ≡ p1 % 2 ^ 32 = number-four m 4 ∙ word-again p1 in
+      let e2 : numberAt 4 m 8 ≡ p2 % 2 ^ 32 = number-four m 8 ∙ word-again p2 in
+      let e3 : numberAt 4 m 12 ≡ p3 % 2 ^ 32 = number-four m 12 ∙ word-again p3 in
+      let e4 : numberAt 4 m 16 ≡ p4 % 2 ^ 32 = number-four m 16 ∙ word-again p4 in
+      let e5 : numberAt 4 m 20 ≡ p5 / 2 ^ 16 % 2 ^ 16 * 2 ^ 16 + j % 256 * 256 + x0 / 2 ^ 24 % 256 = number-four m 20 ∙ omega arith in
+      let e6 : numberAt 4 m 24 ≡ x0 % 2 ^ 24 * 256 + x1 / 2 ^ 24 % 256 = number-four m 24 ∙ omega arith in
+      let e7 : numberAt 4 m 28 ≡ x1 % 2 ^ 24 * 256 + x2 / 2 ^ 24 % 256 = number-four m 28 ∙ omega arith in
+      let e8 : numberAt 4 m 32 ≡ x2 % 2 ^ 24 * 256 + x3 / 2 ^ 24 % 256 = number-four m 32 ∙ omega arith in
+      let e9 : numberAt 4 m 36 ≡ x3 % 2 ^ 24 * 256 + x4 / 2 ^ 24 % 256 = number-four m 36 ∙ omega arith in
+      let e10 : numberAt 4 m 40 ≡ x4 % 2 ^ 24 * 256 + x5 / 2 ^ 24 % 256 = number-four m 40 ∙ omega arith in
+      let e11 : numberAt 4 m 44 ≡ x5 % 2 ^ 24 * 256 + x6 / 2 ^ 24 % 256 = number-four m 44 ∙ omega arith in
+      let e12 : numberAt 4 m 48 ≡ x6 % 2 ^ 24 * 256 + x7 / 2 ^ 24 % 256 = number-four m 48 ∙ omega arith in
+      let e13 : numberAt 4 m 52 ≡ x7 % 2 ^ 24 * 256 + 2147483648 / 2 ^ 24 % 256 = number-four m 52 ∙ omega arith in
+      let e14 : numberAt 4 m 56 ≡ 0 = number-four m 56 ∙ omega arith in
+      let e15 : numberAt 4 m 60 ≡ 440 = number-four m 60 ∙ omega arith in
       rw (e0, e1, e2, e3, e4, e5, e6, e7, e8, e9, e10, e11, e12, e13, e14, e15)
 
-  hashed : (r : List ℕ) → r ≡ compress H0 (p0 % 2 ^ 32 ∷ p1 % 2 ^ 32 ∷ p2 % 2 ^ 32 ∷ p3 % 2 ^ 32 ∷ p4 % 2 ^ 32 ∷ (p5 / 2 ^ 16 % 2 ^ 16 * 2 ^ 16 + j % 256 * 256 + x0 / 2 ^ 24 % 256) ∷ (x0 % 2 ^ 24 * 256 + x1 / 2 ^ 24 % 256) ∷ (x1 % 2 ^ 24 * 256 + x2 / 2 ^ 24 % 256) ∷ (x2 % 2 ^ 24 * 256 + x3 / 2 ^ 24 % 256) ∷ (x3 % 2 ^ 24 * 256 + x4 / 2 ^ 24 % 256) ∷ (x4 % 2 ^ 24 * 256 + x5 / 2 ^ 24 % 256) ∷ (x5 % 2 ^ 24 * 256 + x6 / 2 ^ 24 % 256) ∷ (x6 % 2 ^ 24 * 256 + x7 / 2 ^ 24 % 256) ∷ (x7 % 2 ^ 24 * 256 + 2147483648 / 2 ^ 24 % 256) ∷ 0 ∷ 440 ∷ [])
+  hashed : (r : List ℕ) → r ≡ compress H0 (p0 % 2 ^ 32 ∷ p1 % 2 ^ 32 ∷ p2 % 2 ^ 32 ∷ p3 % 2 ^ 32 ∷ p4 % 2 ^ 32
+      ∷ (p5 / 2 ^ 16 % 2 ^ 16 * 2 ^ 16 + j % 256 * 256 + x0 / 2 ^ 24 % 256) ∷ (x0 % 2 ^ 24 * 256 + x1 / 2 ^ 24 % 256)
+      ∷ (x1 % 2 ^ 24 * 256 + x2 / 2 ^ 24 % 256) ∷ (x2 % 2 ^ 24 * 256 + x3 / 2 ^ 24 % 256) ∷ (x3 % 2 ^ 24 * 256 + x4 / 2 ^ 24 % 256)
+      ∷ (x4 % 2 ^ 24 * 256 + x5 / 2 ^ 24 % 256) ∷ (x5 % 2 ^ 24 * 256 + x6 / 2 ^ 24 % 256) ∷ (x6 % 2 ^ 24 * 256 + x7 / 2 ^ 24 % 256)
+      ∷ (x7 % 2 ^ 24 * 256 + 2147483648 / 2 ^ 24 % 256) ∷ 0 ∷ 440 ∷ [])
       → bytes r ≡ sha256 (prefix p0 p1 p2 p3 p4 p5 ++ be 1 j ++ bytes (x0 ∷ x1 ∷ x2 ∷ x3 ∷ x4 ∷ x5 ∷ x6 ∷ x7 ∷ []))
   hashed r e =
       ap bytes (e ∙ ap (compress H0) (sym words-laid ∙ ap (words 16) (sym laid-is)))
@@ -109,6 +119,7 @@ pub linked : (p x : List ℕ) (j : ℕ) → length p ≡ 6 → length x ≡ 8 �
 linked p x j lp lx e0 e1 e2 e3 e4 e5 e6 e7 e8 e9 e10 e11 e12 e13 h r eh er =
     let ep : elements p 0 6 ≡ p = elements-are 6 0 p (omega arith) in
     let ex : elements x 0 8 ≡ x = elements-are 8 0 x (omega arith) in
-    hashed (getD p 0 0) (getD p 1 0) (getD p 2 0) (getD p 3 0) (getD p 4 0) (getD p 5 0) j (getD x 0 0) (getD x 1 0) (getD x 2 0) (getD x 3 0) (getD x 4 0) (getD x 5 0) (getD x 6 0) (getD x 7 0) r
+    hashed (getD p 0 0) (getD p 1 0) (getD p 2 0) (getD p 3 0) (getD p 4 0) (getD p 5 0) j (getD x 0 0) (getD x 1 0) (getD x 2 0)
+    (getD x 3 0) (getD x 4 0) (getD x 5 0) (getD x 6 0) (getD x 7 0) r
     (er ∙ rw (eh, e0, e1, e2, e3, e4, e5, e6, e7, e8, e9, e10, e11, e12, e13))
     ∙ rw (ep, ex)

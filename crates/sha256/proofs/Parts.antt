@@ -12,7 +12,7 @@ use Rattle.sha256.specs.Bytes.{be, written}
 use Rattle.sha256.specs.Constants.{H0}
 use Rattle.sha256.specs.Block.{compress}
 use Rattle.sha256.specs.Hash.{zeros, padding, pad, words, hashValue, bytes, sha256}
-use Rattle.sha256.specs.Stream.{rest, streamed}
+use Rattle.sha256.specs.Inner.{rest, streamed}
 use Rattle.sha256.specs.declared.stream.Sha.{Sha}
 use Rattle.sha256.proofs.Laws.{be-length, be-mod}
 use Rattle.sha256.proofs.Cases.{cases-lt}

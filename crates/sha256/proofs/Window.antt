@@ -14,7 +14,7 @@ use mir.Val.{Fits}
 use borrow.Author.Tests.{lt-ltb, le-ltb, ltb-true}
 use Rattle.sha256.specs.Constants.{K}
 use Rattle.sha256.specs.Block.{T1, T2, nextW, schedule, round, rounds, sums, compress}
-use Rattle.sha256.specs.Window.{shifted, shiftedBy, roundsFrom}
+use Rattle.sha256.specs.Inner.{shifted, shiftedBy, roundsFrom}
 use Rattle.sha256.specs.Word.{σ0, σ1}
 
 -- the n elements of a list from place i on, written out

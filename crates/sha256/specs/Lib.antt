@@ -3,7 +3,6 @@ pub mod Bytes
 pub mod Word
 pub mod Constants
 pub mod Block
-pub mod Window
 pub mod Hash
-pub mod Stream
+pub mod Inner
 pub mod Examples

@@ -5,7 +5,7 @@ ghost use lib.ListN.{length, drop};
 ghost use Rattle.sha256.specs.Bytes.{numberAt};
 ghost use Rattle.sha256.specs.Block.{T1, T2, round as roundOf, sums as sumsOf, compress as compressOf};
 ghost use Rattle.sha256.specs.Hash.{words};
-ghost use Rattle.sha256.specs.Window.{shifted, shiftedBy, roundsFrom};
+ghost use Rattle.sha256.specs.Inner.{shifted, shiftedBy, roundsFrom};
 use crate::bytes;
 use crate::word;
 

@@ -5,7 +5,7 @@ ghost use Prim.Native.Nat.{ℕ, _/_, _%_, _^_};
 ghost use lib.ListN.{length};
 ghost use Rattle.sha256.specs.Constants.{H0};
 ghost use Rattle.sha256.specs.Hash.{sha256, hashValue, bytes as bytesOf};
-ghost use Rattle.sha256.specs.Stream.{streamed};
+ghost use Rattle.sha256.specs.Inner.{streamed};
 use crate::block;
 use crate::bytes;
 use crate::value;
@@ -78,7 +78,8 @@ pub fn initial() -> [u32; 8]
 
 // The state after s, where `state` is the hash value of the whole blocks before it and `total` the count with s.
 fn absorb(state: [u32; 8], s: &[u8], total: u64) -> Sha
-    ensures { λ r. ⌜ ((m : List ℕ) → length m % 64 ≡ 0 → state ≡ hashValue (length m / 64) m → total ≡ length (m ++ now (s .entry)) % 2 ^ 64 → r ≡ streamed (m ++ now (s .entry))) ⌝ }
+    ensures { λ r. ⌜ ((m : List ℕ) → length m % 64 ≡ 0 → state ≡ hashValue (length m / 64) m
+        → total ≡ length (m ++ now (s .entry)) % 2 ^ 64 → r ≡ streamed (m ++ now (s .entry))) ⌝ }
 {
     let next = value::whole_blocks(state, s);
     let whole = s.len() / 64 * 64;

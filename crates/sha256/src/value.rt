@@ -6,14 +6,15 @@ ghost use lib.Dec.{ltb};
 ghost use Prim.Native.Nat.{ℕ, _+_, _/_, _%_, _^_, _<_};
 ghost use lib.ListN.{length};
 ghost use Rattle.sha256.specs.Hash.{sha256, hashValue};
-ghost use Rattle.sha256.specs.Stream.{rest as restOf};
+ghost use Rattle.sha256.specs.Inner.{rest as restOf};
 use crate::block;
 use crate::bytes;
 use crate::stream;
 
 // The hash value after the whole blocks of s.
 pub fn whole_blocks(h: [u32; 8], s: &[u8]) -> [u32; 8]
-    ensures { λ r. ⌜ ((m : List ℕ) → length m % 64 ≡ 0 → h ≡ hashValue (length m / 64) m → r ≡ hashValue ((length m + length (now (s .entry))) / 64) (m ++ now (s .entry))) ⌝ }
+    ensures { λ r. ⌜ ((m : List ℕ) → length m % 64 ≡ 0 → h ≡ hashValue (length m / 64) m
+        → r ≡ hashValue ((length m + length (now (s .entry))) / 64) (m ++ now (s .entry))) ⌝ }
 {
     let mut state = h;
     let mut i = 0;
@@ -28,7 +29,8 @@ pub fn whole_blocks(h: [u32; 8], s: &[u8]) -> [u32; 8]
 // The hash of a message of `total` bytes (modulo 2^64), from the hash value of its whole blocks and the bytes after them.
 pub fn close(state: [u32; 8], rest: &[u8], total: u64) -> [u8; 32]
     requires { ⌜ length (now rest) < 64 ⌝ }
-    ensures { λ r. ⌜ ((m : List ℕ) → state ≡ hashValue (length m / 64) m → now (rest .entry) ≡ restOf m → total ≡ length m % 2 ^ 64 → r ≡ sha256 m) ⌝ }
+    ensures { λ r. ⌜ ((m : List ℕ) → state ≡ hashValue (length m / 64) m → now (rest .entry) ≡ restOf m
+        → total ≡ length m % 2 ^ 64 → r ≡ sha256 m) ⌝ }
 {
     let at = rest.len();
     let bits = bytes::be8(total % 2305843009213693952 * 8);

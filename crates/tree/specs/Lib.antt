@@ -5,7 +5,7 @@ pub mod Expr
 pub mod Tree
 pub mod Cover
 pub mod Read
-pub mod Walk
+pub mod Inner
 pub mod Table
 pub mod Message
 pub mod Setup

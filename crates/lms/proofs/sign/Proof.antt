@@ -22,7 +22,10 @@ returns-2 : tie.Need-returns-2
 unfolding signCode signed treeSize signatureSize
 returns-2 c =
     let the-args = c .before .before .before .before .before .args in
-    rw (le-leb 65504 (length (the-args .nodes .now)) (c .before .if1 .left), lt-leb 2508 (length (the-args .place .now)) (c .if2 .taken)) (refl, refl)
+    rw (
+      le-leb 65504 (length (the-args .nodes .now)) (c .before .if1 .left),
+      lt-leb 2508 (length (the-args .place .now)) (c .if2 .taken),
+    ) (refl, refl)
 
 returns-3 : tie.Need-returns-3
 unfolding signCode signed treeSize signatureSize
@@ -61,18 +64,25 @@ same-length c = search needs
 returns-4 : tie.Need-returns-4
 unfolding signCode signed treeSize signatureSize
 returns-4 c =
-    let the-args = c .before .before .before .before .before .before .before .before .before .before .before .before .before .before .args in
+    let if1-left = c .before .before .before .before .before .before .before .before .before .before .if1 .left in
+    let if2-left = c .before .before .before .before .before .before .before .before .before .if2 .left in
+    let if3-left = c .before .before .before .before .before .before .before .before .if3 .left in
+    let words = c .before .before .before .before .before .before .words .ensures in
+    let w4 = c .before .before .before .before .before .w4 .ensures in
+    let h10 = c .before .before .before .before .h10 .ensures in
+    let signature = c .before .before .signature .ensures in
+    let the-args
+    = c .before .before .before .before .before .before .before .before .before .before .before .before .before .before .args in
     let f : (j : ℕ) → Fits w8 (getD (the-args .t1) j 0) = λ j. search needs in
     let back = seed-back (the-args .t1) (λ j. omega (arith, f j)) (search needs) in
     rw (
-      le-leb 65504 (length (the-args .nodes .now)) (c .before .before .before .before .before .before .before .before .before .before .if1 .left),
-      le-leb 2508 (length (the-args .place .now)) (c .before .before .before .before .before .before .before .before .before .if2 .left),
-      lt-ltb
-          (the-args .number) 1024 (c .before .before .before .before .before .before .before .before .if3 .left),
-      c .before .before .signature .ensures,
-      c .before .before .before .before .before .w4 .ensures,
-      c .before .before .before .before .h10 .ensures,
-      c .before .before .before .before .before .before .words .ensures,
+      le-leb 65504 (length (the-args .nodes .now)) if1-left,
+      le-leb 2508 (length (the-args .place .now)) if2-left,
+      lt-ltb (the-args .number) 1024 if3-left,
+      signature,
+      w4,
+      h10,
+      words,
       back,
     ) (refl, refl)
 

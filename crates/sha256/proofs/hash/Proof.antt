@@ -27,7 +27,12 @@ close-requires : tie.Need-close-requires
 close-requires c κs = search needs
 
 returns : tie.Need-returns
-returns c = c .close .ensures (c .before .before .before .before .before .args .message .now) (value-of-slice (c .before .before .before .before .before .args .message .now) _ (c .before .before .whole-blocks .ensures [] refl (c .before .before .before .initial .ensures ∙ first))) (rest-of-slice (c .before .before .before .before .before .args .message .now) _ refl) (search needs)
+returns c =
+    let args = c .before .before .before .before .before .args in
+    let initial = c .before .before .before .initial .ensures in
+    let whole-blocks = c .before .before .whole-blocks .ensures in
+    c .close .ensures (args .message .now) (value-of-slice (args .message .now) _ (whole-blocks [] refl (initial ∙ first)))
+    (rest-of-slice (args .message .now) _ refl) (search needs)
 
 pub hash-spec : {M : Type 1} → statement M
 hash-spec =

@@ -15,7 +15,10 @@ finish-requires : tie.Need-finish-requires
 finish-requires c κs = search needs
 
 returns : tie.Need-returns
-returns c = c .finish .ensures _ (c .before .update2 .ensures _ (c .before .before .update .ensures _ (c .before .before .before .begin .ensures)))
+returns c =
+    let begin = c .before .before .before .begin .ensures in
+    let update = c .before .before .update .ensures in
+    c .finish .ensures _ (c .before .update2 .ensures _ (update _ begin))
 
 pub hash3-spec : {M : Type 1} → statement M
 hash3-spec =

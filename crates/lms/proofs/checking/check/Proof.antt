@@ -23,10 +23,12 @@ signature-fits-requires c κs = search needs
 returns-2 : tie.Need-returns-2
 unfolding checkOf
 returns-2 c =
+    let key-fits = c .before .before .before .key-fits .ensures in
+    let if1-left = c .before .before .if1 .left in
     let a = c .before .before .before .before .before .before .before .args in
-    let k : keyFits (a .o) (a .l) (a .key .now) ≡ true = sym (c .before .before .before .key-fits .ensures) ∙ not-false _
-    (c .before .before .if1 .left) in
-    let f : signatureFits (a .o) (a .l) (a .s .now) ≡ false = sym (c .before .signature-fits .ensures) ∙ not-true _ (c .if2 .taken) in rw (k, f)
+    let k : keyFits (a .o) (a .l) (a .key .now) ≡ true = sym key-fits ∙ not-false _ if1-left in
+    let f : signatureFits (a .o) (a .l) (a .s .now) ≡ false = sym (c .before .signature-fits .ensures) ∙ not-true _ (c .if2 .taken) in
+    rw (k, f)
 
 root-requires : tie.Need-root-requires
 root-requires c κs =

@@ -13,7 +13,8 @@ use Rattle.lms.proofs.checking.root.Tie as tie
 
 id-of-requires : tie.Need-id-of-requires
 id-of-requires c κs =
-    let a = c .before .before .before .args in omega (arith, key-passed (a .o) (a .l) (a .key .now) (c .before .before .before .pre .1 .1 .0))
+    let pre-1-1-0 = c .before .before .before .pre .1 .1 .0 in
+    let a = c .before .before .before .args in omega (arith, key-passed (a .o) (a .l) (a .key .now) pre-1-1-0)
 
 u32-at-requires : tie.Need-u32-at-requires
 u32-at-requires c κs = search needs

@@ -4,7 +4,7 @@ use Prim.Native.Nat.{_≤_, _-_, _*_}
 use native.Mathlib.Omega.{arith}
 use lib.ListN.{length, take, drop, length-drop}
 use borrow.Author.Needs.{needs}
-use Rattle.sha256.specs.Stream.{streamed}
+use Rattle.sha256.specs.Inner.{streamed}
 use Rattle.lms.specs.Ots.{coef, digit, chain, closed, endsHash}
 use Rattle.lms.specs.Types.{prefix, cat}
 use Rattle.lms.proofs.Digits.{power-most, coef-most}
@@ -119,7 +119,8 @@ returns c =
     let the-last = c .before .before .before .before .before .before .before .last in
     let the-summed = c .before .before .before .before .before .before .summed in
     let the-loop = c .before .before .loop in
-    let e : the-loop .i ≡ the-args .o .p = omega arith in c .finish .ensures _ (rw (e, the-last .ensures, the-summed .ensures) at (the-loop .inv .1))
+    let e : the-loop .i ≡ the-args .o .p = omega arith in
+    c .finish .ensures _ (rw (e, the-last .ensures, the-summed .ensures) at (the-loop .inv .1))
 
 pub candidate-spec : {M : Type 1} → statement M
 candidate-spec =

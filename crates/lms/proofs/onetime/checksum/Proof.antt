@@ -36,9 +36,10 @@ coef-requires c κs =
 
 sub-sum : tie.Need-sub-sum Inv-loop μ-loop
 sub-sum c =
+    let loop-i = c .before .before .before .loop .i in
     let the-last = c .before .before .before .before .last in
     let the-args = c .before .before .before .before .before .args in
-    let most = coef-most (the-args .t2) (c .before .before .before .loop .i) (the-args .o .w) in omega (arith, c .coef .ensures, the-last .ensures)
+    let most = coef-most (the-args .t2) loop-i (the-args .o .w) in omega (arith, c .coef .ensures, the-last .ensures)
 
 add-sum : tie.Need-add-sum Inv-loop μ-loop
 add-sum c =

@@ -18,11 +18,13 @@ digest-requires c κs = search needs
 
 returns : tie.Need-returns
 returns c =
+    let prefix-words = c .before .before .before .prefix-words .ensures in
+    let words = c .before .before .words .ensures in
     let the-pre = c .before .before .before .before .before .pre in
     let the-args = c .before .before .before .before .before .args in
     let the-shared-slice-known = c .before .before .before .before .shared-slice-known in
     let back = bytes-words 8 (the-args .y .now) (λ j. omega (arith, the-shared-slice-known .given j)) (the-pre .1) in
-    rw (c .digest .ensures, c .before .chain .ensures, c .before .before .before .prefix-words .ensures, c .before .before .words .ensures, back)
+    rw (c .digest .ensures, c .before .chain .ensures, prefix-words, words, back)
 
 pub closed-spec : {M : Type 1} → statement M
 closed-spec =

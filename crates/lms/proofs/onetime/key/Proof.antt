@@ -4,7 +4,7 @@ use Prim.Native.Nat.{_≤_, _-_}
 use native.Mathlib.Omega.{arith}
 use borrow.Author.Needs.{needs}
 use Rattle.sha256.specs.Hash.{bytes}
-use Rattle.sha256.specs.Stream.{streamed}
+use Rattle.sha256.specs.Inner.{streamed}
 use Rattle.lms.specs.Types.{prefix, cat}
 use Rattle.lms.specs.Ots.{chain, secret, chainEnd, endsHash, K}
 use Rattle.lms.proofs.Parts.{cat-more}

@@ -17,7 +17,10 @@ digest-requires c κs = search needs
 
 returns : tie.Need-returns
 unfolding secret
-returns c = rw (c .digest .ensures, c .before .chain .ensures, c .before .before .link .ensures, c .before .before .before .prefix-words .ensures)
+returns c =
+    let prefix-words = c .before .before .before .prefix-words .ensures in
+    let link = c .before .before .link .ensures in
+    rw (c .digest .ensures, c .before .chain .ensures, link, prefix-words)
 
 pub opened-spec : {M : Type 1} → statement M
 opened-spec =

@@ -38,11 +38,14 @@ put-requires-3 c κs = search needs
 
 returns : tie.Need-returns
 returns c =
-    let the-args = c .before .before .before .before .before .before .before .before .before .before .before .before .before .before .args in
-    prefix-laid (the-args .t1) _ _ _ _ _ _ (the-args .r) (the-args .d) (search needs) (search needs)
-    (c .before .before .before .before .before .before .before .before .before .before .before .put .ensures)
-    (c .before .before .before .before .before .before .before .before .be4 .ensures)
-    (c .before .before .before .before .before .before .put2 .ensures) (c .before .before .before .be2 .ensures) (c .before .put3 .ensures)
+    let put = c .before .before .before .before .before .before .before .before .before .before .before .put .ensures in
+    let be4 = c .before .before .before .before .before .before .before .before .be4 .ensures in
+    let put2 = c .before .before .before .before .before .before .put2 .ensures in
+    let be2 = c .before .before .before .be2 .ensures in
+    let the-args
+    = c .before .before .before .before .before .before .before .before .before .before .before .before .before .before .args in
+    prefix-laid (the-args .t1) _ _ _ _ _ _ (the-args .r) (the-args .d) (search needs) (search needs) put be4 put2 be2
+    (c .before .put3 .ensures)
 
 pub prefix-spec : {M : Type 1} → statement M
 prefix-spec =

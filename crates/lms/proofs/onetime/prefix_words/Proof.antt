@@ -33,8 +33,8 @@ returns : tie.Need-returns
 returns c =
     let the-args = c .before .before .args in
     let f : (j : ℕ) → Fits w8 (getD (the-args .t1) j 0) = λ j. search needs in
-    prefix-in-words (the-args .t1) (c .words .result) (the-args .q) (the-args .i) (λ j. omega (arith, f j)) (search needs) (c .words .ensures)
-    (omega arith)
+    prefix-in-words (the-args .t1) (c .words .result) (the-args .q) (the-args .i) (λ j. omega (arith, f j)) (search needs)
+    (c .words .ensures) (omega arith)
 
 pub prefix-words-spec : {M : Type 1} → statement M
 prefix-words-spec =

@@ -27,8 +27,10 @@ put-requires-2 c κs = search needs
 
 returns : tie.Need-returns
 returns c =
-    filled-twice _ (c .before .before .before .before .before .before .before .before .before .args .t2) _ _ _ 32 (search needs) (search needs)
-    (c .before .before .before .before .before .before .put .ensures) (c .before .put2 .ensures) ∙ rw (c .before .before .before .checksum .ensures)
+    let args = c .before .before .before .before .before .before .before .before .before .args in
+    let put = c .before .before .before .before .before .before .put .ensures in
+    let checksum = c .before .before .before .checksum .ensures in
+    filled-twice _ (args .t2) _ _ _ 32 (search needs) (search needs) put (c .before .put2 .ensures) ∙ rw checksum
 
 pub summed-spec : {M : Type 1} → statement M
 summed-spec =

@@ -47,8 +47,9 @@ put-requires-2 c κs = search needs
 
 slice-aggregate-put-3 : tie.Need-slice-aggregate-put-3
 slice-aggregate-put-3 c =
-    let the-good = c .before .before .before .before .before .before .before .before .before .before .before .before .before .before .before .before .before .before .before .before .good in
-    sym (the-good .1 .1 .1 .1 .1 .0 .1 .0 .1)
+    let c8 = c .before .before .before .before .before .before .before .before in
+    let c16 = c8 .before .before .before .before .before .before .before .before in
+    let the-good = c16 .before .before .before .before .good in sym (the-good .1 .1 .1 .1 .1 .0 .1 .0 .1)
 
 put-requires-3 : tie.Need-put-requires-3
 put-requires-3 c κs = search needs
@@ -56,10 +57,14 @@ put-requires-3 c κs = search needs
 write-chains-requires : tie.Need-write-chains-requires
 unfolding signatureSize
 write-chains-requires c κs =
+    let put3-kept-0 = c .before .before .before .put3 .kept .0 in
     let the-put = c .before .before .before .before .before .before .before .before .before .before .before .before .before .before .put in
     let the-put2 = c .before .before .before .before .before .before .before .before .put2 in
-    let the-pre = c .before .before .before .before .before .before .before .before .before .before .before .before .before .before .before .before .before .before .before .before .before .before .before .before .pre in
-    (the-pre .0, omega (arith, the-pre .1 .1 .1 .1, the-put .kept .0, the-put2 .kept .0, c .before .before .before .put3 .kept .0))
+    let the-pre
+    =
+    c .before .before .before .before .before .before .before .before .before .before .before .before .before .before .before
+    .before .before .before .before .before .before .before .before .before .pre in
+    (the-pre .0, omega (arith, the-pre .1 .1 .1 .1, the-put .kept .0, the-put2 .kept .0, put3-kept-0))
 
 be4-requires-3 : tie.Need-be4-requires-3
 be4-requires-3 c κs = search needs
@@ -72,17 +77,32 @@ put-requires-4 c κs = search needs
 
 add-write-path : tie.Need-add-write-path
 add-write-path c =
-    let the-pre = c .before .before .before .before .before .before .before .before .before .before .before .before .before .before .before .before .before .before .before .before .before .before .before .before .before .before .before .before .before .before .before .before .before .before .pre in
+    let the-pre
+    =
+    c .before .before .before .before .before .before .before .before .before .before .before .before .before .before .before .before
+    .before .before .before .before .before .before .before .before .before .before .before .before .before .before .before .before
+    .before .before .pre in
     omega (arith, the-pre .0 .p-most)
 
 write-path-requires : tie.Need-write-path-requires
 unfolding signatureSize
 write-path-requires c κs =
-    let the-put = c .before .before .before .before .before .before .before .before .before .before .before .before .before .before .before .before .before .before .before .before .before .before .before .before .put in
-    let the-put2 = c .before .before .before .before .before .before .before .before .before .before .before .before .before .before .before .before .before .before .put2 in
+    let put4-kept-0 = c .before .before .before .put4 .kept .0 in
+    let the-put
+    =
+    c .before .before .before .before .before .before .before .before .before .before .before .before .before .before .before .before
+    .before .before .before .before .before .before .before .before .put in
+    let the-put2
+    =
+    c .before .before .before .before .before .before .before .before .before .before .before .before .before .before .before
+    .before .before .before .put2 in
     let the-put3 = c .before .before .before .before .before .before .before .before .before .before .before .before .before .put3 in
     let the-write-chains = c .before .before .before .before .before .before .before .before .before .write-chains in
-    let the-pre = c .before .before .before .before .before .before .before .before .before .before .before .before .before .before .before .before .before .before .before .before .before .before .before .before .before .before .before .before .before .before .before .before .before .before .pre in (
+    let the-pre
+    =
+    c .before .before .before .before .before .before .before .before .before .before .before .before .before .before .before
+    .before .before .before .before .before .before .before .before .before .before .before .before .before .before .before .before
+    .before .before .before .pre in (
       the-pre .1 .0,
       (
         the-pre .1 .1 .0,
@@ -95,7 +115,7 @@ write-path-requires c κs =
             the-put2 .kept .0,
             the-put3 .kept .0,
             the-write-chains .kept .1 .1 .1 .1 .1 .0,
-            c .before .before .before .put4 .kept .0,
+            put4-kept-0,
           ),
         ),
       ),
@@ -103,10 +123,21 @@ write-path-requires c κs =
 
 same-length : tie.Need-same-length
 same-length c =
-    let the-put = c .before .before .before .before .before .before .before .before .before .before .before .before .before .before .before .before .before .before .before .before .before .before .before .before .before .before .before .put in
-    let the-put2 = c .before .before .before .before .before .before .before .before .before .before .before .before .before .before .before .before .before .before .before .before .before .put2 in
-    let the-put3 = c .before .before .before .before .before .before .before .before .before .before .before .before .before .before .before .before .put3 in
-    let the-write-chains = c .before .before .before .before .before .before .before .before .before .before .before .before .write-chains in
+    let write-path-kept-1-1-1-0 = c .before .before .write-path .kept .1 .1 .1 .0 in
+    let the-put
+    =
+    c .before .before .before .before .before .before .before .before .before .before .before .before .before .before .before .before
+    .before .before .before .before .before .before .before .before .before .before .before .put in
+    let the-put2
+    =
+    c .before .before .before .before .before .before .before .before .before .before .before .before .before .before .before
+    .before .before .before .before .before .before .put2 in
+    let the-put3
+    =
+    c .before .before .before .before .before .before .before .before .before .before .before .before .before .before .before
+    .before .put3 in
+    let the-write-chains
+    = c .before .before .before .before .before .before .before .before .before .before .before .before .write-chains in
     let the-put4 = c .before .before .before .before .before .before .put4 in
     omega (
       arith,
@@ -115,35 +146,66 @@ same-length c =
       the-put3 .kept .0,
       the-write-chains .kept .1 .1 .1 .1 .1 .0,
       the-put4 .kept .0,
-      c .before .before .write-path .kept .1 .1 .1 .0,
+      write-path-kept-1-1-1-0,
     )
 
 returns : tie.Need-returns
 unfolding signature otsSignature signatureSize
 returns c =
-    let a = c .before .before .before .before .before .before .before .before .before .before .before .before .before .before .before .before .before .before .before .before .before .before .before .before .before .before .before .before .before .before .before .before .before .before .before .before .before .args in
-    let the-good = c .before .before .before .before .before .before .before .before .before .before .before .before .before .before .before .before .before .before .before .before .before .before .before .before .before .before .before .before .before .before .before .before .before .before .before .before .before .good in
-    let the-text-hash = c .before .before .before .before .before .before .before .before .before .before .before .before .before .before .before .before .before .before .before .before .before .before .before .before .before .before .before .before .before .before .before .text-hash in
-    let the-be4 = c .before .before .before .before .before .before .before .before .before .before .before .before .before .before .before .before .before .before .before .before .before .before .before .before .before .before .before .before .before .be4 in
-    let the-put = c .before .before .before .before .before .before .before .before .before .before .before .before .before .before .before .before .before .before .before .before .before .before .before .before .before .before .before .put in
-    let the-be42 = c .before .before .before .before .before .before .before .before .before .before .before .before .before .before .before .before .before .before .before .before .before .before .before .be42 in
-    let the-put2 = c .before .before .before .before .before .before .before .before .before .before .before .before .before .before .before .before .before .before .before .before .before .put2 in
-    let the-put3 = c .before .before .before .before .before .before .before .before .before .before .before .before .before .before .before .before .put3 in
-    let the-write-chains = c .before .before .before .before .before .before .before .before .before .before .before .before .write-chains in
+    let write-path = c .before .before .write-path .ensures in
+    let a
+    =
+    c .before .before .before .before .before .before .before .before .before .before .before .before .before .before .before .before
+    .before .before .before .before .before .before .before .before .before .before .before .before .before .before .before .before
+    .before .before .before .before .before .args in
+    let the-good
+    =
+    c .before .before .before .before .before .before .before .before .before .before .before .before .before .before .before
+    .before .before .before .before .before .before .before .before .before .before .before .before .before .before .before .before
+    .before .before .before .before .before .before .good in
+    let the-text-hash
+    =
+    c .before .before .before .before .before .before .before .before .before .before .before .before .before .before .before
+    .before .before .before .before .before .before .before .before .before .before .before .before .before .before .before .before
+    .text-hash in
+    let the-be4
+    =
+    c .before .before .before .before .before .before .before .before .before .before .before .before .before .before .before
+    .before .before .before .before .before .before .before .before .before .before .before .before .before .before .be4 in
+    let the-put
+    =
+    c .before .before .before .before .before .before .before .before .before .before .before .before .before .before .before
+    .before .before .before .before .before .before .before .before .before .before .before .before .put in
+    let the-be42
+    =
+    c .before .before .before .before .before .before .before .before .before .before .before .before .before .before .before
+    .before .before .before .before .before .before .before .before .be42 in
+    let the-put2
+    =
+    c .before .before .before .before .before .before .before .before .before .before .before .before .before .before .before
+    .before .before .before .before .before .before .put2 in
+    let the-put3
+    =
+    c .before .before .before .before .before .before .before .before .before .before .before .before .before .before .before
+    .before .put3 in
+    let the-write-chains
+    = c .before .before .before .before .before .before .before .before .before .before .before .before .write-chains in
     let the-be43 = c .before .before .before .before .before .before .before .before .be43 in
     let the-put4 = c .before .before .before .before .before .before .put4 in
-    let the-pre = c .before .before .before .before .before .before .before .before .before .before .before .before .before .before .before .before .before .before .before .before .before .before .before .before .before .before .before .before .before .before .before .before .before .before .before .before .before .pre in
+    let the-pre
+    =
+    c .before .before .before .before .before .before .before .before .before .before .before .before .before .before .before
+    .before .before .before .before .before .before .before .before .before .before .before .before .before .before .before .before
+    .before .before .before .before .before .before .pre in
     let y = opened (a .o) (a .id) (bytes (a .seed)) (a .q) (textHash (a .id) (a .q) (a .t6) (a .text .now)) in
-    let ly : length (cat y (a .o .p)) ≡ 32 * a .o .p = cat-length y (a .o .p) (λ i _. opened-length (a .o) (a .id) (bytes (a .seed)) (a .q) _ i)
-    (a .o .p) (omega arith) in
+    let ly : length (cat y (a .o .p)) ≡ 32 * a .o .p = cat-length y (a .o .p)
+    (λ i _. opened-length (a .o) (a .id) (bytes (a .seed)) (a .q) _ i) (a .o .p) (omega arith) in
     let lp = path-length (a .l .h) (a .q) (the-pre .1 .1 .0) (a .tree .now) (the-pre .1 .1 .1 .0) in
-    signature-laid (a .place .now) (u32str (a .q)) (u32str (a .o .otstype)) (a .t6) (cat y (a .o .p)) (u32str (a .l .lmstype)) (path (a .l .h)
-    (a .tree .now) (a .q))
-    _ _ _ _ _ _ (40 + 32 * a .o .p) (be-length 4 (a .q)) (be-length 4 (a .o .otstype)) (the-good .1 .1 .1 .1 .1 .0 .1 .0 .1) (be-length 4
-    (a .l .lmstype))
-    (omega (arith, ly)) (omega (arith, lp, the-pre .1 .1 .1 .1))
-    (the-put .ensures ∙ rw (the-be4 .ensures)) (the-put2 .ensures ∙ rw (the-be42 .ensures)) (the-put3 .ensures) (the-write-chains .ensures ∙ rw
-    (the-text-hash .ensures)) (the-put4 .ensures ∙ rw (the-be43 .ensures)) (c .before .before .write-path .ensures)
+    signature-laid (a .place .now) (u32str (a .q)) (u32str (a .o .otstype)) (a .t6) (cat y (a .o .p)) (u32str (a .l .lmstype))
+    (path (a .l .h) (a .tree .now) (a .q)) _ _ _ _ _ _ (40 + 32 * a .o .p) (be-length 4 (a .q)) (be-length 4 (a .o .otstype))
+    (the-good .1 .1 .1 .1 .1 .0 .1 .0 .1) (be-length 4 (a .l .lmstype)) (omega (arith, ly)) (omega (arith, lp, the-pre .1 .1 .1 .1))
+    (the-put .ensures ∙ rw (the-be4 .ensures)) (the-put2 .ensures ∙ rw (the-be42 .ensures)) (the-put3 .ensures)
+    (the-write-chains .ensures ∙ rw (the-text-hash .ensures)) (the-put4 .ensures ∙ rw (the-be43 .ensures)) write-path
 
 pub signature-spec : {M : Type 1} → statement M
 signature-spec =

@@ -67,17 +67,19 @@ loop-less c = search needs
 
 loop-again : tie.Need-loop-again Inv-loop μ-loop
 loop-again c =
+    let pre-1 = c .before .before .before .before .before .before .before .before .before .before .before .before .pre .1 in
+    let loop-test-taken = c .before .before .before .before .before .before .before .before .loop-test .taken in
+    let the-coef = c .before .before .before .before .before .before .coef .ensures in
+    let the-opened = c .before .before .before .before .before .opened .ensures in
+    let put = c .before .before .put .ensures in
     let the-loop = c .before .before .before .before .before .before .before .before .before .loop in
     let a = c .before .before .before .before .before .before .before .before .before .before .before .before .args in
     let d = c .before .before .before .before .before .before .before .before .before .before .summed .result in (
       search needs,
-      laid-more (a .place .now) (λ j. chain (prefix (a .id) (a .q) j) 0 (coef d j (a .o .w)) (secret (a .id) (bytes (a .seed)) (a .q) j)) (a .at)
-          (the-loop .i) (a .o .p) _ (the-loop .place) _
-          (λ j g. chain-length _ _ 0 (coef d j (a .o .w)) (secret-length (a .id) (bytes (a .seed)) (a .q) j))
-          (c .before .before .before .before .before .before .before .before .loop-test .taken)
-          (c .before .before .before .before .before .before .before .before .before .before .before .before .pre .1) (the-loop .inv .1)
-          (c .before .before .before .before .before .opened .ensures ∙ rw (c .before .before .before .before .before .before .coef .ensures))
-          (c .before .before .put .ensures),
+      laid-more (a .place .now) (λ j. chain (prefix (a .id) (a .q) j) 0 (coef d j (a .o .w))
+          (secret (a .id) (bytes (a .seed)) (a .q) j)) (a .at) (the-loop .i) (a .o .p) _ (the-loop .place) _
+          (λ j g. chain-length _ _ 0 (coef d j (a .o .w)) (secret-length (a .id) (bytes (a .seed)) (a .q) j)) loop-test-taken pre-1
+          (the-loop .inv .1) (the-opened ∙ rw the-coef) put,
     )
 
 same-length : tie.Need-same-length Inv-loop μ-loop

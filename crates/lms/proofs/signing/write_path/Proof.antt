@@ -50,12 +50,13 @@ shr-node-at c = search needs
 
 node-at-requires : tie.Need-node-at-requires Inv-loop μ-loop
 node-at-requires c κs =
+    let loop-i = c .before .before .loop .i in
     let a = c .before .before .before .before .before .args in
     let the-pre = c .before .before .before .before .before .pre in
     let big = height-most (a .h) (the-pre .0) in
     let one = height-held (a .h) (the-pre .0) in
     let two = pow-suc 2 (a .h) in
-    let in-tree = beside-in (a .h) (a .q) (c .before .before .loop .i) (1 * 2 ^ a .h % 18446744073709551616 + a .q) (omega arith) (the-pre .1 .0)
+    let in-tree = beside-in (a .h) (a .q) loop-i (1 * 2 ^ a .h % 18446744073709551616 + a .q) (omega arith) (the-pre .1 .0)
     (c .before .loop-test .taken) in
     (in-tree .0, omega (arith, in-tree .1))
 
@@ -70,20 +71,23 @@ loop-less c = search needs
 
 loop-again : tie.Need-loop-again Inv-loop μ-loop
 loop-again c =
+    let loop-test-taken = c .before .before .before .before .before .loop-test .taken in
+    let node-at = c .before .before .before .node-at .ensures in
+    let put = c .before .before .put .ensures in
     let the-pre = c .before .before .before .before .before .before .before .before .before .pre in
     let the-loop = c .before .before .before .before .before .before .loop in
     let a = c .before .before .before .before .before .before .before .before .before .args in
     let big = height-most (a .h) (the-pre .0) in
     let one = height-held (a .h) (the-pre .0) in
-    let in-tree : (j : ℕ) → j < a .h → (0 < bitXor ((1 * 2 ^ a .h % 18446744073709551616 + a .q) / 2 ^ j) 1) × (bitXor
-    ((1 * 2 ^ a .h % 18446744073709551616 + a .q) / 2 ^ j) 1 < 2 ^ suc (a .h)) =
-    λ j g. beside-in (a .h) (a .q) j (1 * 2 ^ a .h % 18446744073709551616 + a .q) (omega arith) (the-pre .1 .0) g in (
+    let in-tree : (j : ℕ) → j < a .h → (0 < bitXor ((1 * 2 ^ a .h % 18446744073709551616 + a .q) / 2 ^ j) 1)
+    × (bitXor ((1 * 2 ^ a .h % 18446744073709551616 + a .q) / 2 ^ j) 1 < 2 ^ suc (a .h)) = λ j g. beside-in (a .h) (a .q) j
+    (1 * 2 ^ a .h % 18446744073709551616 + a .q) (omega arith) (the-pre .1 .0) g in (
       search needs,
-      laid-more (a .place .now) (λ j. nodeAt (a .tree .now) (bitXor ((1 * 2 ^ a .h % 18446744073709551616 + a .q) / 2 ^ j) 1)) (a .at) (the-loop .i)
-          (a .h) _ (the-loop .place) _
-          (λ j g. node-whole (a .tree .now) (a .h) _ (the-pre .1 .1 .0) (in-tree j g .0) (in-tree j g .1))
-          (c .before .before .before .before .before .loop-test .taken) (the-pre .1 .1 .1) (the-loop .inv .1)
-          (c .before .before .before .node-at .ensures) (c .before .before .put .ensures),
+      laid-more (a .place .now) (λ j. nodeAt (a .tree .now)
+          (bitXor ((1 * 2 ^ a .h % 18446744073709551616 + a .q) / 2 ^ j) 1)) (a .at) (the-loop .i) (a .h) _ (the-loop .place) _
+          (λ j g. node-whole (a .tree .now) (a .h) _ (the-pre .1 .1 .0) (in-tree j g .0) (in-tree j g .1)) loop-test-taken
+          (the-pre .1 .1 .1)
+          (the-loop .inv .1) node-at put,
     )
 
 same-length : tie.Need-same-length Inv-loop μ-loop

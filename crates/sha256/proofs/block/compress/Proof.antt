@@ -33,13 +33,32 @@ loop-less c = search needs
 
 loop-again : tie.Need-loop-again Inv-loop μ-loop
 unfolding K
-loop-again c = let a = c .before .before .before .before .loop in let z : a .t % 16 ≡ 0 = a .inv .0 in let g : a .t ≤ 48 = omega arith in (omega arith, (omega arith, (turn-rounds _ _ (a .w) (a .v) _ (a .t) g (a .inv .1 .1 .1 (omega arith)) (a .inv .1 .1 .0) (c .before .sixteen-rounds .ensures), λ l. ⊎-elim (λ u. u .2 ∙ turn-window _ (a .w) _ (a .t) (a .inv .1 .1 .1 (omega arith)) (u .1 .ensures)) (λ u. absurd (omega (arith, u .0 .left))) (c .if1 .came))))
+loop-again c =
+    let a = c .before .before .before .before .loop in
+    let z : a .t % 16 ≡ 0 = a .inv .0 in
+    let g : a .t ≤ 48 = omega arith in (
+      omega arith,
+      (
+        omega arith,
+        (
+          turn-rounds _ _ (a .w) (a .v) _ (a .t) g (a .inv .1 .1 .1 (omega arith)) (a .inv .1 .1 .0)
+              (c .before .sixteen-rounds .ensures),
+          λ l. ⊎-elim
+              (λ u. u .2 ∙ turn-window _ (a .w) _ (a .t) (a .inv .1 .1 .1 (omega arith)) (u .1 .ensures))
+              (λ u. absurd (omega (arith, u .0 .left)))
+              (c .if1 .came),
+        ),
+      ),
+    )
 
 sums-requires : tie.Need-sums-requires Inv-loop μ-loop
 sums-requires c κs = search needs
 
 returns : tie.Need-returns Inv-loop μ-loop
-returns c = let a = c .before .before .loop in let z : a .t % 16 ≡ 0 = a .inv .0 in let n : a .t ≡ 64 = omega arith in compressed _ _ (a .v) _ (rw n at (a .inv .1 .1 .0)) (c .sums .ensures)
+returns c =
+    let a = c .before .before .loop in
+    let z : a .t % 16 ≡ 0 = a .inv .0 in
+    let n : a .t ≡ 64 = omega arith in compressed _ _ (a .v) _ (rw n at (a .inv .1 .1 .0)) (c .sums .ensures)
 
 pub compress-spec : {M : Type 1} → statement M
 compress-spec =

@@ -1,4 +1,4 @@
-use Rattle.sha256.specs.Window.{shiftedBy}
+use Rattle.sha256.specs.Inner.{shiftedBy}
 use borrow.Author.Needs.{needs}
 use Rattle.sha256.proofs.block.next_sixteen.Statement.{statement}
 use Rattle.sha256.proofs.block.next_sixteen.Tie as tie
@@ -53,7 +53,26 @@ slide-requires-16 c κs = search needs
 
 returns : tie.Need-returns
 unfolding shiftedBy
-returns c = rw (c .slide16 .ensures, c .before .slide15 .ensures, c .before .before .slide14 .ensures, c .before .before .before .slide13 .ensures, c .before .before .before .before .slide12 .ensures, c .before .before .before .before .before .slide11 .ensures, c .before .before .before .before .before .before .slide10 .ensures, c .before .before .before .before .before .before .before .slide9 .ensures, c .before .before .before .before .before .before .before .before .slide8 .ensures, c .before .before .before .before .before .before .before .before .before .slide7 .ensures, c .before .before .before .before .before .before .before .before .before .before .slide6 .ensures, c .before .before .before .before .before .before .before .before .before .before .before .slide5 .ensures, c .before .before .before .before .before .before .before .before .before .before .before .before .slide4 .ensures, c .before .before .before .before .before .before .before .before .before .before .before .before .before .slide3 .ensures, c .before .before .before .before .before .before .before .before .before .before .before .before .before .before .slide2 .ensures, c .before .before .before .before .before .before .before .before .before .before .before .before .before .before .before .slide .ensures)
+returns c =
+    let c8 = c .before .before .before .before .before .before .before .before in
+    rw (
+      c .slide16 .ensures,
+      c .before .slide15 .ensures,
+      c .before .before .slide14 .ensures,
+      c .before .before .before .slide13 .ensures,
+      c .before .before .before .before .slide12 .ensures,
+      c .before .before .before .before .before .slide11 .ensures,
+      c .before .before .before .before .before .before .slide10 .ensures,
+      c .before .before .before .before .before .before .before .slide9 .ensures,
+      c8 .slide8 .ensures,
+      c8 .before .slide7 .ensures,
+      c8 .before .before .slide6 .ensures,
+      c8 .before .before .before .slide5 .ensures,
+      c8 .before .before .before .before .slide4 .ensures,
+      c8 .before .before .before .before .before .slide3 .ensures,
+      c8 .before .before .before .before .before .before .slide2 .ensures,
+      c8 .before .before .before .before .before .before .before .slide .ensures,
+    )
 
 pub next-sixteen-spec : {M : Type 1} → statement M
 next-sixteen-spec =

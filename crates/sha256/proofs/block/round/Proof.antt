@@ -58,7 +58,10 @@ array-read-t43 : tie.Need-array-read-t43
 array-read-t43 c = search needs
 
 returns : tie.Need-returns
-returns c = rounded _ _ _ (c .before .before .before .t1 .ensures) (c .before .before .t2 .ensures) (c .before .sum2 .ensures) (c .sum22 .ensures)
+returns c =
+    let t1 = c .before .before .before .t1 .ensures in
+    let t2 = c .before .before .t2 .ensures in
+    rounded _ _ _ t1 t2 (c .before .sum2 .ensures) (c .sum22 .ensures)
 
 pub round-spec : {M : Type 1} → statement M
 round-spec =

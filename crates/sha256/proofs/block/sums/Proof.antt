@@ -77,7 +77,14 @@ sum2-requires-8 c κs = search needs
 
 returns : tie.Need-returns
 unfolding sums
-returns c = rw (c .sum28 .ensures, c .before .sum27 .ensures, c .before .before .sum26 .ensures, c .before .before .before .sum25 .ensures, c .before .before .before .before .sum24 .ensures, c .before .before .before .before .before .sum23 .ensures, c .before .before .before .before .before .before .sum22 .ensures, c .before .before .before .before .before .before .before .sum2 .ensures)
+returns c =
+    let sum2 = c .before .before .before .before .before .before .before .sum2 .ensures in
+    let sum22 = c .before .before .before .before .before .before .sum22 .ensures in
+    let sum23 = c .before .before .before .before .before .sum23 .ensures in
+    let sum24 = c .before .before .before .before .sum24 .ensures in
+    let sum25 = c .before .before .before .sum25 .ensures in
+    let sum26 = c .before .before .sum26 .ensures in
+    rw (c .sum28 .ensures, c .before .sum27 .ensures, sum26, sum25, sum24, sum23, sum22, sum2)
 
 pub sums-spec : {M : Type 1} → statement M
 sums-spec =

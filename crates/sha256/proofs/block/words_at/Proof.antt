@@ -41,7 +41,17 @@ loop-less : tie.Need-loop-less Inv-loop μ-loop
 loop-less c = search needs
 
 loop-again : tie.Need-loop-again Inv-loop μ-loop
-loop-again c = let a = c .before .before .loop in let l : length (a .w) ≡ 16 = a .inv .1 .0 in (search needs, (simp length-set l, words-more (drop (c .before .before .before .before .args .i) (c .before .before .before .before .args .s .now)) (a .w) (a .t) _ (omega arith) (a .inv .1 .1) (c .load .ensures ∙ sym (number-drop 4 (c .before .before .before .before .args .s .now) (c .before .before .before .before .args .i) (4 * a .t)))))
+loop-again c =
+    let args = c .before .before .before .before .args in
+    let a = c .before .before .loop in
+    let l : length (a .w) ≡ 16 = a .inv .1 .0 in (
+      search needs,
+      (
+        simp length-set l,
+        words-more (drop (args .i) (args .s .now)) (a .w) (a .t) _ (omega arith) (a .inv .1 .1)
+            (c .load .ensures ∙ sym (number-drop 4 (args .s .now) (args .i) (4 * a .t))),
+      ),
+    )
 
 returns : tie.Need-returns Inv-loop μ-loop
 returns c = let a = c .before .loop in let e : a .t ≡ 16 = omega arith in sym (take-all 16 (a .w) (omega arith)) ∙ rw e at (a .inv .1 .1)

@@ -33,7 +33,18 @@ loop-less : tie.Need-loop-less Inv-loop μ-loop
 loop-less c = search needs
 
 loop-again : tie.Need-loop-again Inv-loop μ-loop
-loop-again c = let a = c .before .before .loop in let l : length (a .d) ≡ length (c .before .before .before .args .d .now) = a .inv .1 .0 in (search needs, (simp length-set l, copy-more (c .before .before .before .args .d .now) (a .d) (c .before .before .before .args .at) (c .before .before .before .args .src .now) (a .j) (omega (arith, c .before .before .before .pre)) (omega arith) (a .inv .1 .1)))
+loop-again c =
+    let pre = c .before .before .before .pre in
+    let args = c .before .before .before .args in
+    let a = c .before .before .loop in
+    let l : length (a .d) ≡ length (args .d .now) = a .inv .1 .0 in (
+      search needs,
+      (
+        simp length-set l,
+        copy-more (args .d .now) (a .d) (args .at) (args .src .now) (a .j) (omega (arith, pre))
+            (omega arith) (a .inv .1 .1),
+      ),
+    )
 
 same-length : tie.Need-same-length Inv-loop μ-loop
 same-length c = search needs

@@ -16,13 +16,20 @@ same-length : tie.Need-same-length
 same-length c = search needs
 
 returns : tie.Need-returns
-returns c = c .before .before .copy .ensures ∙ copied (c .before .before .before .before .before .before .before .before .args .d .now) (c .before .before .before .before .before .before .before .before .args .at) (c .before .before .before .before .before .before .before .before .args .src .now) (omega arith)
+returns c =
+    let args = c .before .before .before .before .before .before .before .before .args in
+    let copy = c .before .before .copy .ensures in
+    copy ∙ copied (args .d .now) (args .at) (args .src .now) (omega arith)
 
 returns-2 : tie.Need-returns-2
-returns-2 c = sym (written-not (c .before .before .before .before .args .d .now) (c .before .before .before .before .args .at) (c .before .before .before .before .args .src .now) (omega arith))
+returns-2 c =
+    let args = c .before .before .before .before .args in
+    sym (written-not (args .d .now) (args .at) (args .src .now) (omega arith))
 
 returns-3 : tie.Need-returns-3
-returns-3 c = sym (written-not (c .before .before .before .args .d .now) (c .before .before .before .args .at) (c .before .before .before .args .src .now) (omega arith))
+returns-3 c =
+    let args = c .before .before .before .args in
+    sym (written-not (args .d .now) (args .at) (args .src .now) (omega arith))
 
 pub put-spec : {M : Type 1} → statement M
 put-spec = tie.close (tie.spec sub-if2 copy-requires same-length returns returns-2 returns-3)

@@ -6,19 +6,25 @@ use Rattle.sha256.proofs.bytes.put2.Statement.{statement}
 use Rattle.sha256.proofs.bytes.put2.Tie as tie
 
 returns : tie.Need-returns
-returns c = written-not-both (c .before .before .before .before .args .d .now) (c .before .before .before .before .args .at) (c .before .before .before .before .args .first .now) (c .before .before .before .before .args .second .now) (omega arith)
+returns c =
+    let args = c .before .before .before .before .args in
+    written-not-both (args .d .now) (args .at) (args .first .now) (args .second .now) (omega arith)
 
 sub-room : tie.Need-sub-room
 sub-room c = search needs
 
 returns-2 : tie.Need-returns-2
-returns-2 c = written-not-both (c .before .before .before .before .before .args .d .now) (c .before .before .before .before .before .args .at) (c .before .before .before .before .before .args .first .now) (c .before .before .before .before .before .args .second .now) (omega arith)
+returns-2 c =
+    let args = c .before .before .before .before .before .args in
+    written-not-both (args .d .now) (args .at) (args .first .now) (args .second .now) (omega arith)
 
 sub-if3 : tie.Need-sub-if3
 sub-if3 c = search needs
 
 returns-3 : tie.Need-returns-3
-returns-3 c = written-not-both (c .before .before .before .before .before .before .args .d .now) (c .before .before .before .before .before .before .args .at) (c .before .before .before .before .before .before .args .first .now) (c .before .before .before .before .before .before .args .second .now) (omega arith)
+returns-3 c =
+    let args = c .before .before .before .before .before .before .args in
+    written-not-both (args .d .now) (args .at) (args .first .now) (args .second .now) (omega arith)
 
 put-requires : tie.Need-put-requires
 put-requires c κs = search needs
@@ -33,7 +39,11 @@ same-length : tie.Need-same-length
 same-length c = search needs
 
 returns-4 : tie.Need-returns-4
-returns-4 c = c .before .before .put2 .ensures ∙ rw (c .before .before .before .before .before .before .put .ensures) (written-twice (c .before .before .before .before .before .before .before .before .before .before .before .before .before .before .args .d .now) (c .before .before .before .before .before .before .before .before .before .before .before .before .before .before .args .at) (c .before .before .before .before .before .before .before .before .before .before .before .before .before .before .args .first .now) (c .before .before .before .before .before .before .before .before .before .before .before .before .before .before .args .second .now) (omega arith))
+returns-4 c =
+    let args = c .before .before .before .before .before .before .before .before .before .before .before .before .before .before .args in
+    let put = c .before .before .before .before .before .before .put .ensures in
+    let the-put2 = c .before .before .put2 .ensures in
+    the-put2 ∙ rw put (written-twice (args .d .now) (args .at) (args .first .now) (args .second .now) (omega arith))
 
 pub put2-spec : {M : Type 1} → statement M
 put2-spec =

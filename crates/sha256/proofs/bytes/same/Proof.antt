@@ -28,7 +28,10 @@ shared-slice-read-if2-2 : tie.Need-shared-slice-read-if2-2 Inv-loop μ-loop
 shared-slice-read-if2-2 c = search needs
 
 returns-2 : tie.Need-returns-2 Inv-loop μ-loop
-returns-2 c = sym (eqs-false (c .before .before .before .before .before .before .args .a .now) (c .before .before .before .before .before .before .args .b .now) (λ e. c .if2 .taken (ap (λ (l : List ℕ). getD l (c .before .before .before .before .loop .i) 0) e)))
+returns-2 c =
+    let args = c .before .before .before .before .before .before .args in
+    let loop-i = c .before .before .before .before .loop .i in
+    sym (eqs-false (args .a .now) (args .b .now) (λ e. c .if2 .taken (ap (λ (l : List ℕ). getD l loop-i 0) e)))
 
 add-i : tie.Need-add-i Inv-loop μ-loop
 add-i c = search needs
@@ -37,10 +40,15 @@ loop-less : tie.Need-loop-less Inv-loop μ-loop
 loop-less c = search needs
 
 loop-again : tie.Need-loop-again Inv-loop μ-loop
-loop-again c = (search needs, same-more (c .before .before .before .before .before .before .args .a .now) (c .before .before .before .before .before .before .args .b .now) (c .before .before .before .before .loop .i) (omega arith) (omega arith) (c .before .before .before .before .loop .inv .1) (c .if2 .left))
+loop-again c =
+    let args = c .before .before .before .before .before .before .args in
+    let loop = c .before .before .before .before .loop in
+    (search needs, same-more (args .a .now) (args .b .now) (loop .i) (omega arith) (omega arith) (loop .inv .1) (c .if2 .left))
 
 returns-3 : tie.Need-returns-3 Inv-loop μ-loop
-returns-3 c = all-same (c .before .before .before .args .a .now) (c .before .before .before .args .b .now) (c .before .loop .i) (omega arith) (omega arith) (c .before .loop .inv .1)
+returns-3 c =
+    let args = c .before .before .before .args in
+    all-same (args .a .now) (args .b .now) (c .before .loop .i) (omega arith) (omega arith) (c .before .loop .inv .1)
 
 pub same-spec : {M : Type 1} → statement M
 same-spec =

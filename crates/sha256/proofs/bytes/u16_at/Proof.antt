@@ -16,7 +16,10 @@ of2-requires : tie.Need-of2-requires
 of2-requires c κs = search needs
 
 returns : tie.Need-returns
-returns c = rw (c .of2 .ensures, c .before .byte-at2 .ensures, c .before .before .byte-at .ensures, c .before .before .before .from .ensures) (number-two-from _ _)
+returns c =
+    let from = c .before .before .before .from .ensures in
+    let byte-at = c .before .before .byte-at .ensures in
+    rw (c .of2 .ensures, c .before .byte-at2 .ensures, byte-at, from) (number-two-from _ _)
 
 pub u16-at-spec : {M : Type 1} → statement M
 u16-at-spec =

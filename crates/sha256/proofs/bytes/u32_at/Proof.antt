@@ -22,7 +22,12 @@ of4-requires : tie.Need-of4-requires
 of4-requires c κs = search needs
 
 returns : tie.Need-returns
-returns c = rw (c .of4 .ensures, c .before .byte-at4 .ensures, c .before .before .byte-at3 .ensures, c .before .before .before .byte-at2 .ensures, c .before .before .before .before .byte-at .ensures, c .before .before .before .before .before .from .ensures) (number-four-from _ _)
+returns c =
+    let from = c .before .before .before .before .before .from .ensures in
+    let byte-at = c .before .before .before .before .byte-at .ensures in
+    let byte-at2 = c .before .before .before .byte-at2 .ensures in
+    let byte-at3 = c .before .before .byte-at3 .ensures in
+    rw (c .of4 .ensures, c .before .byte-at4 .ensures, byte-at3, byte-at2, byte-at, from) (number-four-from _ _)
 
 pub u32-at-spec : {M : Type 1} → statement M
 u32-at-spec =

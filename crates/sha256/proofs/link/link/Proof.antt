@@ -118,7 +118,27 @@ compress-requires : tie.Need-compress-requires
 compress-requires c κs = search needs
 
 returns : tie.Need-returns
-returns c = linked (c .before .before .before .before .before .before .before .before .before .before .before .before .before .before .before .before .args .t1) (c .before .before .before .before .before .before .before .before .before .before .before .before .before .before .before .before .args .t3) (c .before .before .before .before .before .before .before .before .before .before .before .before .before .before .before .before .args .j) (c .before .before .before .before .before .before .before .before .before .before .before .before .before .before .before .before .good .0 .1 .0 .1) (c .before .before .before .before .before .before .before .before .before .before .before .before .before .before .before .before .good .1 .1 .0 .1 .0 .1) (c .before .before .before .before .before .before .before .before .before .before .before .before .before .before .before .whole .ensures) (c .before .before .before .before .before .before .before .before .before .before .before .before .before .before .whole2 .ensures) (c .before .before .before .before .before .before .before .before .before .before .before .before .before .whole3 .ensures) (c .before .before .before .before .before .before .before .before .before .before .before .before .whole4 .ensures) (c .before .before .before .before .before .before .before .before .before .before .before .whole5 .ensures) (c .before .before .before .before .before .before .before .before .before .before .numbered .ensures) (c .before .before .before .before .before .before .before .before .before .join .ensures) (c .before .before .before .before .before .before .before .before .join2 .ensures) (c .before .before .before .before .before .before .before .join3 .ensures) (c .before .before .before .before .before .before .join4 .ensures) (c .before .before .before .before .before .join5 .ensures) (c .before .before .before .before .join6 .ensures) (c .before .before .before .join7 .ensures) (c .before .before .join8 .ensures) _ _ (c .before .initial .ensures) (c .compress .ensures)
+returns c =
+    let c8 = c .before .before .before .before .before .before .before .before in
+    let c16 = c8 .before .before .before .before .before .before .before .before in
+    let good = c16 .good in
+    let args = c16 .args in
+    let whole = c8 .before .before .before .before .before .before .before .whole .ensures in
+    let whole2 = c8 .before .before .before .before .before .before .whole2 .ensures in
+    let whole3 = c8 .before .before .before .before .before .whole3 .ensures in
+    let whole4 = c8 .before .before .before .before .whole4 .ensures in
+    let whole5 = c8 .before .before .before .whole5 .ensures in
+    let numbered = c8 .before .before .numbered .ensures in
+    let join = c8 .before .join .ensures in
+    let join2 = c8 .join2 .ensures in
+    let join3 = c .before .before .before .before .before .before .before .join3 .ensures in
+    let join4 = c .before .before .before .before .before .before .join4 .ensures in
+    let join5 = c .before .before .before .before .before .join5 .ensures in
+    let join6 = c .before .before .before .before .join6 .ensures in
+    let join7 = c .before .before .before .join7 .ensures in
+    let join8 = c .before .before .join8 .ensures in
+    linked (args .t1) (args .t3) (args .j) (good .0 .1 .0 .1) (good .1 .1 .0 .1 .0 .1) whole whole2 whole3 whole4 whole5 numbered join join2
+    join3 join4 join5 join6 join7 join8 _ _ (c .before .initial .ensures) (c .compress .ensures)
 
 pub link-spec : {M : Type 1} → statement M
 link-spec =

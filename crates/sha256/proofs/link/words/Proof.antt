@@ -38,7 +38,11 @@ loop-less : tie.Need-loop-less Inv-loop μ-loop
 loop-less c = search needs
 
 loop-again : tie.Need-loop-again Inv-loop μ-loop
-loop-again c = let a = c .before .before .loop in let l : length (a .w) ≡ 8 = a .inv .1 .0 in (search needs, (simp length-set l, words-more (c .before .before .before .before .args .s .now) (a .w) (a .t) _ (omega arith) (a .inv .1 .1) (c .u32-at .ensures)))
+loop-again c =
+    let args = c .before .before .before .before .args in
+    let a = c .before .before .loop in
+    let l : length (a .w) ≡ 8 = a .inv .1 .0 in
+    (search needs, (simp length-set l, words-more (args .s .now) (a .w) (a .t) _ (omega arith) (a .inv .1 .1) (c .u32-at .ensures)))
 
 returns : tie.Need-returns Inv-loop μ-loop
 returns c = let a = c .before .loop in let e : a .t ≡ 8 = omega arith in sym (take-all 8 (a .w) (omega arith)) ∙ rw e at (a .inv .1 .1)

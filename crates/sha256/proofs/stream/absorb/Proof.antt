@@ -26,7 +26,10 @@ put-requires : tie.Need-put-requires
 put-requires c κs = search needs
 
 returns : tie.Need-returns
-returns c = λ m h e t. absorbed m (c .before .before .before .before .before .before .args .s .now) _ _ _ _ h (c .before .before .before .before .whole-blocks .ensures m h e) refl (c .before .put .ensures) t
+returns c =
+    let args = c .before .before .before .before .before .before .args in
+    let whole-blocks = c .before .before .before .before .whole-blocks .ensures in
+    λ m h e t. absorbed m (args .s .now) _ _ _ _ h (whole-blocks m h e) refl (c .before .put .ensures) t
 
 pub absorb-spec : {M : Type 1} → statement M
 absorb-spec =

@@ -47,10 +47,30 @@ loop-less : tie.Need-loop-less Inv-loop μ-loop
 loop-less c = search needs
 
 loop-again : tie.Need-loop-again Inv-loop μ-loop
-loop-again c = let a = c .before .before .before .before .before .before .loop in let h = c .before .before .before .before .before .before .before .args .t1 in let l : length (a .out) ≡ 32 = a .inv .1 .0 in let n : length h ≡ 8 = c .before .before .before .before .before .before .before .good .0 .1 .0 .1 in (search needs, (search needs, rw (c .before .put .ensures) (bytes-more h (a .out) _ (a .i) (omega arith) (omega arith) (a .inv .1 .1) (c .before .before .before .before .be4 .ensures))))
+loop-again c =
+    let good-0-1-0-1 = c .before .before .before .before .before .before .before .good .0 .1 .0 .1 in
+    let be4 = c .before .before .before .before .be4 .ensures in
+    let a = c .before .before .before .before .before .before .loop in
+    let h = c .before .before .before .before .before .before .before .args .t1 in
+    let l : length (a .out) ≡ 32 = a .inv .1 .0 in
+    let n : length h ≡ 8 = good-0-1-0-1 in (
+      search needs,
+      (
+        search needs,
+        rw (c .before .put .ensures)
+            (bytes-more h (a .out) _ (a .i) (omega arith) (omega arith) (a .inv .1 .1) be4),
+      ),
+    )
 
 returns : tie.Need-returns Inv-loop μ-loop
-returns c = let a = c .before .loop in let h = c .before .before .args .t1 in let n : length h ≡ 8 = c .before .before .good .0 .1 .0 .1 in let e : a .i ≡ 8 = omega arith in let l : length (a .out) ≡ 32 = a .inv .1 .0 in sym (take-all 32 (a .out) (omega arith)) ∙ (rw e at (a .inv .1 .1)) ∙ ap bytes (take-all 8 h (omega arith))
+returns c =
+    let good-0-1-0-1 = c .before .before .good .0 .1 .0 .1 in
+    let a = c .before .loop in
+    let h = c .before .before .args .t1 in
+    let n : length h ≡ 8 = good-0-1-0-1 in
+    let e : a .i ≡ 8 = omega arith in
+    let l : length (a .out) ≡ 32 = a .inv .1 .0 in
+    sym (take-all 32 (a .out) (omega arith)) ∙ (rw e at (a .inv .1 .1)) ∙ ap bytes (take-all 8 h (omega arith))
 
 pub digest-spec : {M : Type 1} → statement M
 digest-spec =

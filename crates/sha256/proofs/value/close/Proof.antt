@@ -1,7 +1,8 @@
 use borrow.Author.Needs.{needs}
-use Rattle.sha256.proofs.Parts.{Pending, pending-first, pending-last, pending-more, pending-none, marked-is, bits-are, at-most-two, two-left}
+use Rattle.sha256.proofs.Parts.{Pending, pending-first, pending-last, pending-more, pending-none, marked-is, bits-are, at-most-two}
+use Rattle.sha256.proofs.Parts.{two-left}
 use Rattle.sha256.proofs.Blocks.{rest-length}
-use Rattle.sha256.specs.Stream.{rest as restOf}
+use Rattle.sha256.specs.Inner.{rest as restOf}
 use Rattle.sha256.specs.Hash.{words, hashValue}
 use Rattle.sha256.specs.Block.{compress}
 use lib.ListN.{length, set, length-set}
@@ -15,7 +16,8 @@ use Rattle.sha256.proofs.value.close.Tie as tie
 
 abbrev Inv-loop : tie.InvT-loop
 Inv-loop rest total at bits block₀ h₀ left₀ block h left =
-    (left ≤ 2) × ((length block ≡ 64) × ((m : List ℕ) → h₀ ≡ hashValue (length m / 64) m → rest ≡ restOf m → total ≡ length m % 2 ^ 64 → Pending m bits left h block))
+    (left ≤ 2) × ((length block ≡ 64) × ((m : List ℕ) → h₀ ≡ hashValue (length m / 64) m → rest ≡ restOf m → total ≡ length m % 2 ^ 64 →
+    Pending m bits left h block))
 
 abbrev μ-loop : tie.MeasureT-loop
 μ-loop rest total at bits block₀ h₀ left₀ block h left = left
@@ -39,7 +41,19 @@ blocks-left-requires : tie.Need-blocks-left-requires Inv-loop μ-loop
 blocks-left-requires c κs = search needs
 
 loop-holds : tie.Need-loop-holds Inv-loop μ-loop
-loop-holds c = (at-most-two (length (c .before .before .before .before .before .before .args .rest .now)) _ (c .blocks-left .ensures), (simp length-set (search needs), λ m es er et. pending-first m _ (set (c .before .before .put .last .0) (length (c .before .before .before .before .before .before .args .rest .now)) 128) es (rw (c .before .before .put .ensures) (marked-is m (c .before .before .before .before .before .before .args .rest .now) er)) (c .before .before .before .before .be8 .result) (c .before .before .before .before .be8 .ensures ∙ bits-are _ m et) (length (c .before .before .before .before .before .before .args .rest .now)) _ (ap length er ∙ rest-length m) (c .blocks-left .ensures)))
+loop-holds c =
+    let args = c .before .before .before .before .before .before .args in
+    let be8 = c .before .before .before .before .be8 in
+    let put = c .before .before .put in (
+      at-most-two (length (args .rest .now)) _ (c .blocks-left .ensures),
+      (
+        simp length-set (search needs),
+        λ m es er et. pending-first m _ (set (put .last .0) (length (args .rest .now)) 128) es
+            (rw (put .ensures) (marked-is m (args .rest .now) er)) (be8 .result) (be8 .ensures ∙ bits-are _ m et) (length (args .rest .now))
+            _
+            (ap length er ∙ rest-length m) (c .blocks-left .ensures),
+      ),
+    )
 
 slice-aggregate-put-2 : tie.Need-slice-aggregate-put-2 Inv-loop μ-loop
 slice-aggregate-put-2 c = search needs
@@ -51,10 +65,15 @@ put-requires-2 : tie.Need-put-requires-2 Inv-loop μ-loop
 put-requires-2 c κs = search needs
 
 slice-aggregate-words-at : tie.Need-slice-aggregate-words-at Inv-loop μ-loop
-slice-aggregate-words-at c = sym (⊎-elim (λ u. ap length (u .5) ∙ search needs) (λ u. ap length (u .1) ∙ c .before .before .before .loop .inv .1 .0) (c .before .if1 .came))
+slice-aggregate-words-at c =
+    sym (⊎-elim (λ u. ap length (u .5) ∙ search needs) (λ u. ap length (u .1) ∙ c .before .before .before .loop .inv .1 .0)
+    (c .before .if1 .came))
 
 words-at-requires : tie.Need-words-at-requires Inv-loop μ-loop
-words-at-requires c κs = let l : length (c .before .if1 .block) ≡ 64 = ⊎-elim (λ u. ap length (u .5) ∙ search needs) (λ u. ap length (u .1) ∙ c .before .before .before .loop .inv .1 .0) (c .before .if1 .came) in omega arith
+words-at-requires c κs =
+    let l : length (c .before .if1 .block) ≡ 64 = ⊎-elim (λ u. ap length (u .5) ∙ search needs)
+    (λ u. ap length (u .1) ∙ c .before .before .before .loop .inv .1 .0) (c .before .if1 .came) in
+    omega arith
 
 compress-requires : tie.Need-compress-requires Inv-loop μ-loop
 compress-requires c κs = search needs
@@ -66,13 +85,28 @@ loop-less : tie.Need-loop-less Inv-loop μ-loop
 loop-less c = search needs
 
 loop-again : tie.Need-loop-again Inv-loop μ-loop
-loop-again c = let a = c .before .before .before .before .before .loop in (omega arith, (refl, λ m es er et. ⊎-elim (λ u. pending-last m _ (a .h) (a .block) _ _ (a .left) (a .inv .1 .1 m es er et) (u .0 .taken) (u .5 ∙ u .3 .ensures) (c .compress .ensures ∙ ap (compress (a .h)) (c .before .words-at .ensures))) (λ u. let n = u .0 .left in let two : a .left ≡ 2 = two-left (a .left) (a .inv .0) (c .before .before .before .before .loop-test .taken) n in pending-more m _ (a .h) (a .block) _ (a .left) (a .inv .1 .1 m es er et) two (c .compress .ensures ∙ ap (compress (a .h)) (c .before .words-at .ensures ∙ ap (words 16) (u .1)))) (c .before .before .before .if1 .came)))
+loop-again c =
+    let a = c .before .before .before .before .before .loop in (
+      omega arith,
+      (
+        refl,
+        λ m es er et. ⊎-elim
+            (λ u. pending-last m _ (a .h) (a .block) _ _ (a .left) (a .inv .1 .1 m es er et) (u .0 .taken) (u .5 ∙ u .3 .ensures)
+            (c .compress .ensures ∙ ap (compress (a .h)) (c .before .words-at .ensures))) (λ u. let n = u .0 .left in
+            let two : a .left ≡ 2 = two-left (a .left) (a .inv .0) (c .before .before .before .before .loop-test .taken) n in
+            pending-more m _ (a .h) (a .block) _ (a .left) (a .inv .1 .1 m es er et) two
+            (c .compress .ensures ∙ ap (compress (a .h)) (c .before .words-at .ensures ∙ ap (words 16) (u .1))))
+            (c .before .before .before .if1 .came),
+      ),
+    )
 
 digest-requires : tie.Need-digest-requires Inv-loop μ-loop
 digest-requires c κs = search needs
 
 returns : tie.Need-returns Inv-loop μ-loop
-returns c = λ m es er et. let a = c .before .before .loop in c .digest .ensures ∙ pending-none m _ (a .h) (a .block) (a .left) (a .inv .1 .1 m es er et) (omega arith)
+returns c =
+    λ m es er et. let a = c .before .before .loop in
+    c .digest .ensures ∙ pending-none m _ (a .h) (a .block) (a .left) (a .inv .1 .1 m es er et) (omega arith)
 
 pub close-spec : {M : Type 1} → statement M
 close-spec =

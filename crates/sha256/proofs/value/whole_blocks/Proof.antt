@@ -12,7 +12,9 @@ use Rattle.sha256.proofs.value.whole_blocks.Statement.{statement}
 use Rattle.sha256.proofs.value.whole_blocks.Tie as tie
 
 abbrev Inv-loop : tie.InvT-loop
-Inv-loop s state₀ i₀ state i = (i ≤ length s) × ((i % 64 ≡ 0) × ((m : List ℕ) → length m % 64 ≡ 0 → state₀ ≡ hashValue (length m / 64) m → state ≡ hashValue ((length m + i) / 64) (m ++ s)))
+Inv-loop s state₀ i₀ state i =
+    (i ≤ length s) × ((i % 64 ≡ 0) × ((m : List ℕ) → length m % 64 ≡ 0 → state₀ ≡ hashValue (length m / 64) m → state
+    ≡ hashValue ((length m + i) / 64) (m ++ s)))
 
 abbrev μ-loop : tie.MeasureT-loop
 μ-loop s state₀ i₀ state i = length s - i
@@ -36,10 +38,23 @@ loop-less : tie.Need-loop-less Inv-loop μ-loop
 loop-less c = search needs
 
 loop-again : tie.Need-loop-again Inv-loop μ-loop
-loop-again c = let a = c .before .before .before .loop in let z : a .i % 64 ≡ 0 = a .inv .1 .0 in (omega arith, (omega arith, λ m h e. next-whole-block m _ (a .state) _ (a .i) h z (a .inv .1 .1 m h e) (c .compress .ensures ∙ ap (compress (a .state)) (c .before .words-at .ensures))))
+loop-again c =
+    let a = c .before .before .before .loop in
+    let z : a .i % 64 ≡ 0 = a .inv .1 .0 in (
+      omega arith,
+      (
+        omega arith,
+        λ m h e. next-whole-block m _ (a .state) _ (a .i) h z (a .inv .1 .1 m h e)
+            (c .compress .ensures ∙ ap (compress (a .state)) (c .before .words-at .ensures)),
+      ),
+    )
 
 returns : tie.Need-returns Inv-loop μ-loop
-returns c = λ m h e. let a = c .before .loop in let z : a .i % 64 ≡ 0 = a .inv .1 .0 in let q : (length m + a .i) / 64 ≡ (length m + length (c .before .before .before .args .s .now)) / 64 = omega arith in rw q at (a .inv .1 .1 m h e)
+returns c =
+    let args = c .before .before .before .args in
+    λ m h e. let a = c .before .loop in
+    let z : a .i % 64 ≡ 0 = a .inv .1 .0 in
+    let q : (length m + a .i) / 64 ≡ (length m + length (args .s .now)) / 64 = omega arith in rw q at (a .inv .1 .1 m h e)
 
 pub whole-blocks-spec : {M : Type 1} → statement M
 whole-blocks-spec =

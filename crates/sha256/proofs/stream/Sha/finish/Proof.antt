@@ -14,10 +14,15 @@ front-requires : tie.Need-front-requires
 front-requires c κs = search needs
 
 close-requires : tie.Need-close-requires
-close-requires c κs = omega (arith, ap length (c .front .ensures), length-take (c .before .before .before .before .args .self .total % 64) (c .before .before .before .before .args .self .block))
+close-requires c κs =
+    let args = c .before .before .before .before .args in
+    omega (arith, ap length (c .front .ensures), length-take (args .self .total % 64) (args .self .block))
 
 returns : tie.Need-returns
-returns c = λ m e. c .close .ensures m (state-is (c .before .before .before .before .before .args .self) m e) (c .before .front .ensures ∙ rest-kept (c .before .before .before .before .before .args .self) m e) (total-is (c .before .before .before .before .before .args .self) m e)
+returns c =
+    let args = c .before .before .before .before .before .args in
+    λ m e. c .close .ensures m (state-is (args .self) m e) (c .before .front .ensures ∙ rest-kept (args .self) m e)
+    (total-is (args .self) m e)
 
 pub finish-spec : {M : Type 1} → statement M
 finish-spec = tie.close (tie.spec slice-aggregate-front front-requires close-requires returns)

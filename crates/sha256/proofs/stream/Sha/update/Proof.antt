@@ -20,7 +20,10 @@ put-requires : tie.Need-put-requires
 put-requires c κs = search needs
 
 returns : tie.Need-returns
-returns c = λ m e. took-part (c .before .before .before .before .before .before .before .before .args .self) m e (c .before .before .before .before .before .before .before .before .args .more .now) _ _ (omega arith) (c .before .put .ensures) (c .before .before .before .before .wrapping-add-u64 .ensures)
+returns c =
+    let args = c .before .before .before .before .before .before .before .before .args in
+    let wrapping-add-u64 = c .before .before .before .before .wrapping-add-u64 .ensures in
+    λ m e. took-part (args .self) m e (args .more .now) _ _ (omega arith) (c .before .put .ensures) wrapping-add-u64
 
 sub-k : tie.Need-sub-k
 sub-k c = search needs
@@ -56,7 +59,14 @@ absorb-requires : tie.Need-absorb-requires
 absorb-requires c κs = search needs
 
 returns-2 : tie.Need-returns-2
-returns-2 c = λ m e. took-more (c .before .before .before .before .before .before .before .before .before .before .before .before .before .before .args .self) m e (c .before .before .before .before .before .before .before .before .before .before .before .before .before .before .args .more .now) _ _ _ _ _ (omega arith) (c .before .before .before .before .before .before .put2 .ensures) (c .before .before .compress .ensures ∙ ap (compress (c .before .before .before .before .before .before .before .before .before .before .before .before .before .before .args .self .state)) (c .before .before .before .words-at .ensures)) refl (c .before .before .before .before .before .before .before .before .before .before .wrapping-add-u64 .ensures) (c .absorb .ensures)
+returns-2 c =
+    let args = c .before .before .before .before .before .before .before .before .before .before .before .before .before .before .args in
+    let wrapping-add-u64 = c .before .before .before .before .before .before .before .before .before .before .wrapping-add-u64 .ensures in
+    let put2 = c .before .before .before .before .before .before .put2 .ensures in
+    let words-at = c .before .before .before .words-at .ensures in
+    let the-compress = c .before .before .compress .ensures in
+    λ m e. took-more (args .self) m e (args .more .now) _ _ _ _ _ (omega arith) put2
+    (the-compress ∙ ap (compress (args .self .state)) words-at) refl wrapping-add-u64 (c .absorb .ensures)
 
 pub update-spec : {M : Type 1} → statement M
 update-spec =
