@@ -1,5 +1,4 @@
--- Document 01, 'User': "Entry: byte 1 and text inserts; byte 2 and a position (4 bytes, exactly 5 in all) strikes." Document 02, d:
--- "Entries with first byte 3 hold a firing."
+-- The shapes of entries. Document 01, 'User': "Entry: byte 1 and text inserts"; the others are below.
 use mathlib.Core.Bool.{Bool, cond, _&&_, _||_}
 use mathlib.Core.List.{List}
 use Prim.Native.Nat.{ℕ}
@@ -7,9 +6,11 @@ use lib.Dec.{eqb, leb}
 use lib.ListN.{length, getD}
 use Rattle.sha256.specs.Bytes.{numberAt}
 
+-- Document 01: "byte 2 and a position (4 bytes, exactly 5 in all) strikes"
 unfoldable pub strikes : List ℕ → Bool
 strikes entry = eqb (getD entry 0 0) 2 && eqb (length entry) 5
 
+-- Document 02, d: "Entries with first byte 3 hold a firing."
 unfoldable pub isSchedule : List ℕ → Bool
 isSchedule entry = eqb (getD entry 0 0) 3
 

@@ -1,7 +1,7 @@
-use Rattle.figures.proofs.Decoding.{below-digits, a-digit, between, a-letter, above-letters}
+use Rattle.hex.proofs.Decoding.{below-digits, a-digit, between, a-letter, above-letters}
 use borrow.Author.Needs.{needs}
-use Rattle.figures.proofs.value.Statement.{statement}
-use Rattle.figures.proofs.value.Tie as tie
+use Rattle.hex.proofs.value.Statement.{statement}
+use Rattle.hex.proofs.value.Tie as tie
 
 returns : tie.Need-returns
 returns c = below-digits _ (c .if1 .taken)

@@ -1,19 +1,19 @@
 use borrow.Author.Needs.{needs}
-use Rattle.figures.proofs.Decoding.{decoded-more}
-use Rattle.figures.specs.Figures.{decoded}
+use Rattle.hex.proofs.Decoding.{decoded-more}
+use Rattle.hex.specs.Digits.{decoded}
 use lib.ListN.{length, drop, length-set}
 use native.Mathlib.Omega.{arith}
 use Prim.Native.Nat.{_≤_, _-_}
 use mathlib.Core.List.{_++_}
 use mathlib.Core.Path.{_≡_, refl}
-use Rattle.figures.proofs.decode.Statement.{statement}
-use Rattle.figures.proofs.decode.Tie as tie
+use Rattle.hex.proofs.decode.Statement.{statement}
+use Rattle.hex.proofs.decode.Tie as tie
 
 abbrev Inv-loop : tie.InvT-loop
-Inv-loop figures out₀ n i₀ out i = (i ≤ n) × ((length out ≡ length out₀) × (out ≡ decoded i figures ++ drop i out₀))
+Inv-loop digits out₀ n i₀ out i = (i ≤ n) × ((length out ≡ length out₀) × (out ≡ decoded i digits ++ drop i out₀))
 
 abbrev μ-loop : tie.MeasureT-loop
-μ-loop figures out₀ n i₀ out i = n - i
+μ-loop digits out₀ n i₀ out i = n - i
 
 least-requires : tie.Need-least-requires Inv-loop μ-loop
 least-requires c κs = search needs
@@ -59,13 +59,27 @@ loop-less : tie.Need-loop-less Inv-loop μ-loop
 loop-less c = search needs
 
 loop-again : tie.Need-loop-again Inv-loop μ-loop
-loop-again c = let a = c .before .before .before .before .before .loop in let l : length (a .out) ≡ length (c .before .before .before .before .before .before .before .before .before .args .out .now) = a .inv .1 .0 in (search needs, (simp length-set l, decoded-more _ (a .out) (c .before .before .before .before .before .before .before .before .before .args .out .now) (a .i) _ _ (omega (arith, c .before .before .before .before .before .before .least .ensures)) (a .inv .1 .1) (c .before .before .value .ensures .0) (c .value2 .ensures .0)))
+loop-again c =
+    let args = c .before .before .before .before .before .before .before .before .before .args in
+    let least = c .before .before .before .before .before .before .least .ensures in
+    let value-0 = c .before .before .value .ensures .0 in
+    let a = c .before .before .before .before .before .loop in
+    let l : length (a .out) ≡ length (args .out .now) = a .inv .1 .0 in (
+      search needs,
+      (
+        simp length-set l,
+        decoded-more _ (a .out) (args .out .now) (a .i) _ _ (omega (arith, least)) (a .inv .1 .1) value-0
+            (c .value2 .ensures .0),
+      ),
+    )
 
 same-length : tie.Need-same-length Inv-loop μ-loop
 same-length c = search needs
 
 returns : tie.Need-returns Inv-loop μ-loop
-returns c = let a = c .before .loop in let n : a .i ≡ c .before .before .least .result = omega arith in (c .before .before .least .ensures, rw n at (a .inv .1 .1))
+returns c =
+    let least = c .before .before .least in
+    let a = c .before .loop in let n : a .i ≡ least .result = omega arith in (least .ensures, rw n at (a .inv .1 .1))
 
 pub decode-spec : {M : Type 1} → statement M
 decode-spec =

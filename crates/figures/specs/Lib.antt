@@ -1,2 +1,0 @@
--- Hexadecimal figures as bytes.
-pub mod Figures

@@ -1,0 +1,2 @@
+-- Hexadecimal digits as bytes.
+pub mod Digits
