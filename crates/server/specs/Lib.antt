@@ -3,3 +3,4 @@ pub mod Shape
 pub mod Store
 pub mod Checks
 pub mod Serve
+pub mod Inner

@@ -1,8 +1,9 @@
 // The head as the record that document 01 lends to the server.
-ghost use mathlib.Core.Path.{_≡_};
-ghost use Rattle.tree.specs.Setup.{settings};
-ghost use Rattle.server.specs.Serve.{served, replyOf};
+ghost use Rattle.tree.specs.Setup.{settingsOf};
+ghost use Rattle.server.specs.Serve.{served};
+ghost use Rattle.server.specs.Inner.{ServesLent};
 use super::Head;
+use tree::setup::Config;
 
 // What a call on a lent head gives: its code, the store's used length after it, and the length of the answer, 0 where none is written.
 pub struct Reply {
@@ -13,9 +14,7 @@ pub struct Reply {
 
 // One call of the server on a lent head: `serve` on the head that is lent, and the head that it gives in its place.
 pub fn serve_lent(
-    servers: u8,
-    own: u8,
-    log: [u8; 16],
+    config: Config,
     users: &[u8],
     head: &mut Head,
     store: &mut [u8],
@@ -23,23 +22,13 @@ pub fn serve_lent(
     request: &[u8],
     answer: &mut [u8],
 ) -> Reply
-    ensures { λ r. ⌜ (r ≡ replyOf (served (settings servers own log (now (users .entry))) (now (head .entry)) (now (store .entry)) used (now (request .entry)) (now (answer .entry)) .out))
-        × ((now (head .exit) ≡ served (settings servers own log (now (users .entry))) (now (head .entry)) (now (store .entry)) used (now (request .entry)) (now (answer .entry)) .out .head)
-        × ((now (store .exit) ≡ served (settings servers own log (now (users .entry))) (now (head .entry)) (now (store .entry)) used (now (request .entry)) (now (answer .entry)) .store)
-        × (now (answer .exit) ≡ served (settings servers own log (now (users .entry))) (now (head .entry)) (now (store .entry)) used (now (request .entry)) (now (answer .entry)) .answer))) ⌝ }
+    ensures { λ r. ⌜ ServesLent
+        (served (settingsOf config (now (users .entry))) (now (head .entry))
+        (now (store .entry)) used (now (request .entry)) (now (answer .entry)))
+        r (now (head .exit)) (now (store .exit)) (now (answer .exit)) ⌝ }
 {
     let current = *head;
-    let out = super::serve(
-        servers,
-        own,
-        log,
-        users,
-        current,
-        store,
-        used,
-        request,
-        answer,
-    );
+    let out = super::serve(config, users, current, store, used, request, answer);
     *head = out.head;
     Reply {
         code: out.code,
