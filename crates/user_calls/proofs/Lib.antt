@@ -1,0 +1,3 @@
+-- Laws of a user's step, whichever call it is.
+pub mod Refusals
+pub mod Unchanged

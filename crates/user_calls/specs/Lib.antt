@@ -1,0 +1,2 @@
+-- A user's calls as one.
+pub mod Calls
