@@ -1,34 +1,36 @@
--- The requests that a user hands out: their kind and position read back, and that each fits the request buffer.
-use mathlib.Core.Path.{_≡_, _∙_, sym, ap}
-use mathlib.Core.Bool.{true, not, _||_}
+-- The requests that a user hands out: their kind and position read back, that each fits the request buffer, and the sizes of what goes into them.
+use mathlib.Core.Path.{_≡_, refl, _∙_, sym, ap}
+use mathlib.Core.Bool.{true, cond, not, _||_}
 use mathlib.Core.List.{List}
-use Prim.Native.Nat.{ℕ, _+_, _%_, _≤_, _<_}
+use Prim.Native.Nat.{ℕ, suc, _+_, _%_, _≤_, _<_}
 use native.Mathlib.Omega.{arith}
 use lib.Dec.{eqb, leb, ltb}
 use lib.ListN.{length, take, length-append, length-take}
 use borrow.Author.Tests.{leb-true, ltb-true, le-leb}
 use Rattle.sha256.specs.Bytes.{written}
-use Rattle.sha256.proofs.Laws.{be-mod}
+use Rattle.sha256.proofs.Cases.{by-bool}
+use Rattle.sha256.proofs.Laws.{be-mod, written-length}
 use Rattle.lms.specs.Types.{LMOTS_SHA256_N32_W4, LMS_SHA256_M32_H10}
 use Rattle.lms.specs.Tree.{treeSize}
 use Rattle.lms.specs.Signature.{signatureSize}
 use Rattle.lms.specs.Claims.{SignatureLength}
 use Rattle.lms.proofs.RoundTrip.{signature-length}
 use Rattle.tree.specs.Level.{lg}
-use Rattle.tree.specs.Cover.{piece}
+use Rattle.tree.specs.Expr.{Expr}
+use Rattle.tree.specs.Cover.{piece, pathBytes, pathWritten}
 use Rattle.tree.specs.Message.{request, requestHeader, requestKind, requestPosition}
 use Rattle.tree.proofs.Cases.{and-true}
 use Rattle.tree.proofs.Messages.{be-one, request-position}
 use Rattle.tree.proofs.Pieces.{piece-length}
 use Rattle.tree.specs.Setup.{Settings}
-use Rattle.user.specs.declared.call.Kept.{Kept}
 use Rattle.user_update.specs.declared.call.Update.{Update}
 use Rattle.user_write.specs.declared.call.Write.{Write}
 use Rattle.user.specs.declared.ask.Want.{Want}
 use Rattle.user.specs.Asking.{requestRoom, ofNode, ofStatus, asks}
+use Rattle.user.specs.Outcome.{State, Key}
 use Rattle.user_update.specs.Update.{updateWant}
 use Rattle.firing.specs.Entry.{entryFits}
-use Rattle.user_write.specs.Write.{Key, WriteLent, commitNumber, pathDigest, writeKind, writeLevel, writeBody, heldEntry, writeRoom, signsNext, commitSignature, writeSignature}
+use Rattle.user_write.specs.Write.{commitNumber, pathDigest, writeKind, writeLevel, writeBody, heldEntry, writeRoom, signsNext, commitSignature, writeSignature}
 use Rattle.user.proofs.Passed.{by-cond, sent-is}
 
 -- a request's kind and position, read back; its other fields may be of any size
@@ -62,8 +64,8 @@ sent-position s w body buffer named room h =
 pub update-kind : (n v : ℕ) (c : Update) → updateWant n v c .kind < 5
 unfolding updateWant ofStatus ofNode
 update-kind n v c =
-    by-cond (λ (w : Want). w .kind < 5) (ltb (c .asked) n) _ _ (λ e. omega arith)
-    (λ e. by-cond (λ (w : Want). w .kind < 5) (eqb (c .asked) n) _ _ (λ d. omega arith) (λ d. omega arith))
+    by-cond (λ (w : Want). w .kind < 5) (ltb (c .answers) n) _ _ (λ e. omega arith)
+    (λ e. by-cond (λ (w : Want). w .kind < 5) (eqb (c .answers) n) _ _ (λ d. omega arith) (λ d. omega arith))
 
 -- the kinds of a write's requests, the first of them a Reserve
 pub write-kind : (p j : ℕ) → writeKind p j < 256
@@ -78,14 +80,14 @@ unfolding writeKind
 reserve-first p = rw (le-leb 0 (lg p) (omega arith))
 
 -- every request of a write fits 2,566 bytes: its body is at most a digest and a signature
-pub body-short : (p j : ℕ) (w : Write) (o : WriteLent) → w .length ≤ 1024 → length (o .signature) ≡ 2508
-    → length (writeBody p j (o .path) (heldEntry w (o .held)) (o .signature)) ≤ 2540
+pub body-short : (p j : ℕ) (w : Write) (σ : State) (held : List ℕ) → w .length ≤ 1024 → length (σ .signature) ≡ 2508
+    → length (writeBody p j (σ .path) (heldEntry w held) (σ .signature)) ≤ 2540
 unfolding writeBody pathDigest heldEntry
-body-short p j w o short z =
-    by-cond (λ (q : List ℕ). length q ≤ 2540) (leb j (lg p)) _ _ (λ e. omega (arith, piece-length (o .path) (lg p)))
-    (λ e. by-cond (λ (q : List ℕ). length q ≤ 2540) (eqb j (lg p + 1)) _ _ (λ d. omega (arith, length-take (w .length) (o .held)))
-    (λ d. by-cond (λ (q : List ℕ). length q ≤ 2540) (ltb j (commitNumber p)) _ _ (λ c. omega (arith, piece-length (o .path) (writeLevel p j)))
-    (λ c. omega (arith, length-append (piece (o .path) (lg p)) (o .signature), piece-length (o .path) (lg p)))))
+body-short p j w σ held short z =
+    by-cond (λ (q : List ℕ). length q ≤ 2540) (leb j (lg p)) _ _ (λ e. omega (arith, piece-length (σ .path) (lg p)))
+    (λ e. by-cond (λ (q : List ℕ). length q ≤ 2540) (eqb j (lg p + 1)) _ _ (λ d. omega (arith, length-take (w .length) held))
+    (λ d. by-cond (λ (q : List ℕ). length q ≤ 2540) (ltb j (commitNumber p)) _ _ (λ c. omega (arith, piece-length (σ .path) (writeLevel p j)))
+    (λ c. omega (arith, length-append (piece (σ .path) (lg p)) (σ .signature), piece-length (σ .path) (lg p)))))
 
 -- the sizes that an entry may have
 pub entry-sizes : (entry : List ℕ) → entryFits entry ≡ true → (1 ≤ length entry) × (length entry ≤ 1024)
@@ -102,13 +104,19 @@ room-passed key buffer e =
     (leb-true 2566 (length buffer) (x .0), leb-true 65504 (length (key .tree)) (x .1))
 
 -- the signature that is kept or made has 2,508 bytes: 17 leaves it a number, 21 a tree
-pub signature-sized : (s : Settings) (k : Kept) (w : Write) (o : WriteLent) (key : Key) → length (o .signature) ≡ 2508
-    → length (w .randomizer) ≡ 32 → 65504 ≤ length (key .tree) → not (signsNext k w) || ltb (k .number) 1024 ≡ true
-    → length (writeSignature s k w o key) ≡ 2508
+pub signature-sized : (s : Settings) (σ : State) (key : Key) (w : Write) → length (σ .signature) ≡ 2508
+    → length (w .randomizer) ≡ 32 → 65504 ≤ length (key .tree) → not (signsNext (σ .kept) w) || ltb (σ .kept .number) 1024 ≡ true
+    → length (writeSignature s σ key w) ≡ 2508
 unfolding writeSignature commitSignature SignatureLength signatureSize treeSize
-signature-sized s k w o key z random long free =
-    by-cond (λ (q : List ℕ). length q ≡ 2508) (signsNext k w) _ _
+signature-sized s σ key w z random long free =
+    by-cond (λ (q : List ℕ). length q ≡ 2508) (signsNext (σ .kept) w) _ _
     (λ e.
-    let f = ltb-true (k .number) 1024 (rw e at free) in
-    signature-length LMOTS_SHA256_N32_W4 LMS_SHA256_M32_H10 (key .id) (key .seed) (w .randomizer) _ (key .tree) (k .number) random f long)
+    let f = ltb-true (σ .kept .number) 1024 (rw e at free) in
+    signature-length LMOTS_SHA256_N32_W4 LMS_SHA256_M32_H10 (key .id) (key .seed) (w .randomizer) _ (key .tree) (σ .kept .number) random f long)
     (λ e. z)
+
+-- the path that a write opens with has the length of the path before
+pub laid-length : (v w : ℕ) (hs : List ℕ) (e : Expr) (d : List ℕ) → length (pathWritten v w hs e d) ≡ length d
+unfolding pathWritten
+laid-length v w hs e d =
+    by-bool (λ b. length (cond b (written d 0 (pathBytes v w hs e (lg (suc w) + 1))) d) ≡ length d) (leb v w) (λ _. written-length d 0 _) (λ _. refl)

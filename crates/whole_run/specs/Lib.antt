@@ -1,8 +1,3 @@
--- Document 01's whole runs: the steps of users and of one server, lists of them, and the claim; and the honest run.
+-- Document 01's whole runs: the steps of users and of one server, and lists of them.
 pub mod World
 pub mod Runs
-pub mod Claim
-pub mod Sample
-pub mod Honest
-pub mod HonestClaim
-pub mod HonestSample

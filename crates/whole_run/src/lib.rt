@@ -1,1 +1,1 @@
-// Whole runs: lists of steps of users and of servers. What is claimed of them stands in specs/, its proof in proofs/; there is no code.
+// Whole runs: lists of steps of users and of servers. What a step leaves stands in specs/, laws of steps in proofs/; there is no code.

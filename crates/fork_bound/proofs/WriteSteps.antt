@@ -1,0 +1,214 @@
+-- The steps of an open write keep what holds of its user.
+use mathlib.Core.Path.{_≡_, refl, _∙_}
+use mathlib.Core.Bool.{Bool, true, false, cond, not, _||_}
+use mathlib.Core.List.{List, _++_, List·Memᴰ·head}
+use Prim.Native.Nat.{ℕ, suc, _-_, _≤_}
+use native.Mathlib.Omega.{arith}
+use lib.Dec.{eqb}
+use lib.ListN.{length}
+use borrow.Author.Tests.{eq-eqb, eqb-true, leb-true}
+use Rattle.tree.specs.Message.{request, requestKind, requestPosition, signedText}
+use Rattle.tree.specs.Setup.{Settings, firstCode}
+use Rattle.tree.proofs.Cases.{by-eqb, cases-eq, not-both}
+use Rattle.tree.proofs.CheckLists.{check-passes}
+use Rattle.user.specs.declared.call.Kept.{Kept}
+use Rattle.user.specs.Asking.{userSetupChecks, requestRoom, ofNode, refused, done, asking}
+use Rattle.user.specs.Outcome.{State, withKept, Lent, Outcome, nothing, ending}
+use Rattle.user_write.specs.declared.call.Write.{Write}
+use Rattle.user_write.specs.Write.{openedAt, commitNumber, pathDigest, writeKind, writeWant, writeBody, heldEntry, writeAsks, writeRoom, signsNext, writeChecks, writeSignature, signing, committed, goesOn, writeGoes}
+use Rattle.user.proofs.Passed.{setup-passed, answer-passed, or-cases, by-cond}
+use Rattle.user_write.proofs.WriteRules.{signs-last, Going, by-going, reserve-sent, commit-late}
+use Rattle.user_calls.specs.Calls.{writing, asCall}
+use Rattle.whole_run.specs.World.{settingsFor, Event, signed, Sent, User, sentBy, sentAfter, returned, viewSent, viewAfter, newReads, after, openingHashed, writeSigned, writeAccepted}
+use Rattle.whole_run.proofs.Requests.{sent-kind, sent-position, write-kind, body-short, room-passed, signature-sized}
+use Rattle.fork_bound.proofs.Noted.{Whole, Within, within-left, within-right}
+use Rattle.fork_bound.proofs.Histories.{Signs, Reserved, Signed}
+use Rattle.fork_bound.proofs.States.{FromH, openPosition, openDigest, TookBelow, StateOk, WriteOk, UserOk, reads-commit}
+
+-- The view after a request of a write for v + 1: a Reserve sets it to v, and it was there before any other.
+view-set : (x : Sent) (view v : ℕ) → requestPosition (x .bytes) ≡ suc v → ((requestKind (x .bytes) ≡ 5 → ⊥) → view ≡ v) → viewSent x view ≡ v
+unfolding viewSent
+view-set x view v e f =
+    by-eqb (λ t. cond t (requestPosition (x .bytes) - 1) view ≡ v) (requestKind (x .bytes)) 5 (λ i. omega arith) f
+
+-- what is noted of an answer that a Write takes in
+abbrev pub writeEvents : Settings → Kept → Write → List ℕ → Outcome Write → List Event
+writeEvents s k w a o = openingHashed s (k .version) w o ++ (writeSigned s k w o ++ writeAccepted s w o a)
+
+module _ (W : Whole) (own : ℕ) (u : User) where
+  abbrev s : Settings
+  s = settingsFor (W .group) own
+
+  -- an answer that a Write takes with code 0 keeps what holds of the user
+  abbrev pub WriteKeeps : Write → List ℕ → Outcome Write → Type 0
+  WriteKeeps w a o =
+      o .step .code ≡ 0 → Within W (writeEvents s (u .state .kept) w a o) → UserOk W own (after u (asCall writing o))
+
+  -- an open write, with the state σ, hands out its next request
+  pub write-asks-ok : (σ : State) (m : Lent) (w : Write) → requestRoom (m .request) ≡ true → w .opened ≡ true → w .length ≤ 1024
+      → length (w .randomizer) ≡ 32 → StateOk W own σ (u .reads)
+      → ((writeKind (openPosition σ) (w .answers) ≡ 5 → ⊥) → u .view ≡ σ .kept .version)
+      → TookBelow W own σ (w .answers) → (commitNumber (openPosition σ) ≤ w .answers → σ .kept .signed ≡ true)
+      → UserOk W own (after u (asCall writing (writeAsks s σ m w)))
+  unfolding after writeAsks asking sentBy sentAfter returned viewAfter newReads writeWant ofNode requestRoom
+  write-asks-ok σ m w room opened short random i seen took signs =
+      let p = openPosition σ in
+      let small = i .small in
+      let want = writeWant (s .servers) p (w .answers) in
+      let body = writeBody p (w .answers) (σ .path) (heldEntry w (m .held)) (σ .signature) in
+      let r = leb-true 2566 (length (m .request)) room in
+      let b = body-short p (w .answers) w σ (m .held) short (i .sized) in
+      let at-p = sent-position s want body (m .request) (W .named) (omega arith) (omega arith) in
+      let of-kind = sent-kind s want body (m .request) (W .named) (omega arith) (write-kind p (w .answers)) in
+      record {
+        seen = view-set _ _ _ at-p (λ e. seen (λ i. e (of-kind ∙ i)));
+        state = i;
+        call = record {
+          short = short;
+          random = random;
+          waits = λ c. not-both (w .opened) opened c;
+          goes = λ _. record { took = took; signs = signs; position = at-p; asks = λ h. reserve-sent s σ m w (W .named) room h };
+        };
+      }
+
+  -- an open write takes in an answer
+  module _ (ok : UserOk W own u) (w : Write) (a : List ℕ) (i : WriteOk W own (u .state) (u .sent) w) (isOpen : w .opened ≡ true)
+      (fair : FromH W (u .sent) a) where
+    abbrev σ : State
+    σ = u .state
+
+    abbrev p : ℕ
+    p = openPosition (u .state)
+
+    abbrev δ : List ℕ
+    δ = openDigest (u .state)
+
+    module _ (g : Going s (u .state) (u .lent) w a) where
+      -- the Reserve that was answered now is taken too
+      took-now : TookBelow W own (u .state) (suc (w .answers))
+      took-now l h within o =
+          let ok = i .goes isOpen in
+          cases-eq l (w .answers)
+          (λ e.
+          let x = ok .asks (omega arith) in
+          let server : u .sent .server ≡ W .group .follows = x .0 ∙ rw e at o in
+          let bytes : u .sent .bytes ≡ request 5 (s .log) own p l δ = x .1 ∙ rw e in
+          (a, rw bytes at (fair server), g .code))
+          (λ n. ok .took l (omega arith) within o)
+
+      all-reserved : suc (w .answers) ≡ commitNumber p → Reserved W own p δ
+      all-reserved e =
+          record {
+            listed = g .range .own;
+            within = g .range .opened (g .opened);
+            took = λ l h o. took-now l (omega (arith, commit-late p)) h o;
+          }
+
+      -- what stands behind the text that is signed now
+      signed-now : signsNext (σ .kept) w ≡ true → Signed W own (signedText (s .log) p δ)
+      signed-now e =
+          record {
+            w = σ .kept .version;
+            τ = σ .kept .digest;
+            δ = δ;
+            is = refl;
+            before = ok .state .kept;
+            link = ok .state .open-write (g .opened) .link;
+            reserved = all-reserved (signs-last (σ .kept) w e);
+          }
+
+      signed-then : commitNumber p ≤ suc (w .answers) → (w .answers ≡ commitNumber p → ⊥) → σ .kept .signed || signsNext (σ .kept) w ≡ true
+      unfolding signsNext
+      signed-then h n =
+          let x = g .number in
+          let e : suc (w .answers) ≡ commitNumber p = omega arith in
+          rw (eq-eqb (suc (w .answers)) (commitNumber p) e) (either-way (σ .kept .signed))
+        where
+          either-way : (b : Bool) → b || not b ≡ true
+          either-way true = refl
+          either-way false = refl
+
+    -- 21 leaves the key its tree, 17 a number
+    signature-stays-sized : firstCode (writeChecks s (σ .kept) (u .lent) w a) ≡ 0 → length (writeSignature s σ (u .lent .key) w) ≡ 2508
+    unfolding writeChecks userSetupChecks
+    signature-stays-sized z =
+        let first = setup-passed s (σ .kept) (writeRoom (u .lent .key) (u .lent .request)) _ z in
+        let number = check-passes 17 _ _ (λ z. omega arith) (answer-passed _ _ a _ (first .2) .rest) in
+        signature-sized s σ (u .lent .key) w (ok .state .sized) (i .random) (room-passed (u .lent .key) (u .lent .request) (first .1) .1) (number .0)
+
+    -- the Commit was accepted
+    committed-ok : (g : Going s σ (u .lent) w a) → w .answers ≡ commitNumber p
+        → WriteKeeps w a (ending nothing (withKept σ (committed (σ .kept) (σ .path))) (u .lent) (openedAt w (suc (w .answers))))
+    unfolding after done committed returned sentBy viewSent viewAfter newReads
+    committed-ok g e _ _ =
+        let state = ok .state in
+        let open-write = state .open-write (g .opened) in
+        let goes = i .goes isOpen in
+        let signs = open-write .done (goes .signs (omega arith)) in
+        record {
+          seen = goes .position;
+          state = record {
+            small = g .range .opened (g .opened);
+            room = state .room;
+            sized = state .sized;
+            kept = λ _ _. (own, signs .0);
+            open-write = λ o. not-both false o refl;
+            reads = λ K.
+                reads-commit W K own (σ .kept .version) (σ .kept .digest) δ (u .reads) (state .small) (open-write .link) (signs .1) (state .kept)
+                (state .reads K);
+          };
+          call = tt;
+        }
+
+    -- the next request goes out
+    abbrev nextLeft : Outcome Write
+    nextLeft = writeAsks s (goesOn s σ (u .lent .key) w) (u .lent) (openedAt w (suc (w .answers)))
+
+    signs-now : signsNext (σ .kept) w ≡ true → Within W (writeEvents s (σ .kept) w a nextLeft) → Signs W own p δ
+    unfolding writeSigned writeAsks asking goesOn
+    signs-now e f =
+        let o = nextLeft in
+        within-left W (writeSigned s (σ .kept) w o) (writeAccepted s w o a)
+        (within-right W (openingHashed s (σ .kept .version) w o) (writeSigned s (σ .kept) w o ++ writeAccepted s w o a) f) (signed own (signedText (s .log) p δ))
+        (rw (e, isOpen) (List·Memᴰ·head refl))
+
+    goes-on-ok : firstCode (writeChecks s (σ .kept) (u .lent) w a) ≡ 0 → (g : Going s σ (u .lent) w a) → (w .answers ≡ commitNumber p → ⊥) → WriteKeeps w a nextLeft
+    unfolding goesOn signing
+    goes-on-ok z g ne _ f =
+        let state = ok .state in
+        let open-write = state .open-write (g .opened) in
+        write-asks-ok (goesOn s σ (u .lent .key) w) (u .lent) (openedAt w (suc (w .answers))) (g .room) refl (i .short) (i .random)
+        (record {
+          small = state .small;
+          room = state .room;
+          sized = signature-stays-sized z;
+          kept = state .kept;
+          open-write = λ _. record {
+            link = open-write .link;
+            done = λ t. or-cases (σ .kept .signed) (signsNext (σ .kept) w) t (λ y. open-write .done y)
+                (λ y. (signs-now y f, all-reserved g (signs-last (σ .kept) w y)));
+          };
+          reads = state .reads;
+        })
+        (λ _. ok .seen) (took-now g) (λ h. signed-then g h ne)
+
+    passed : writeGoes s σ (u .lent) w a .step .code ≡ 0 → firstCode (writeChecks s (σ .kept) (u .lent) w a) ≡ 0
+    unfolding writeGoes refused
+    passed =
+        let code = firstCode (writeChecks s (σ .kept) (u .lent) w a) in
+        by-cond (λ (o : Outcome Write). o .step .code ≡ 0 → code ≡ 0) (eqb code 0) _ _ (λ e _. eqb-true code 0 e) (λ e z. z)
+
+    pub write-goes-ok : WriteKeeps w a (writeGoes s σ (u .lent) w a)
+    unfolding refused
+    write-goes-ok z = by-going s σ (u .lent) w a (WriteKeeps w a) (λ n z. absurd (n z)) committed-ok (goes-on-ok (passed z)) z
+
+    -- a signature is made only of the digest of the user's own path, all of whose Reserves H has accepted that are its own to accept
+    abbrev SignsRightly : Outcome Write → Type 0
+    SignsRightly o =
+        eqb (o .step .code) 0 ≡ true → signsNext (σ .kept) w ≡ true → Signed W own (signedText (s .log) p (pathDigest p (o .state .path)))
+
+    pub signs-rightly : SignsRightly (writeGoes s σ (u .lent) w a)
+    unfolding refused writeAsks goesOn
+    signs-rightly =
+        by-going s σ (u .lent) w a SignsRightly (λ n z. absurd (n (eqb-true _ 0 z)))
+        (λ g e _ n. let x = signs-last (σ .kept) w n in absurd (omega arith)) (λ g _ _ n. signed-now g n)

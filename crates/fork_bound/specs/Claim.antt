@@ -1,0 +1,45 @@
+-- Document 00's third demand, as document 01 says it: the one claim about every list of steps.
+use mathlib.Core.Path.{_≡_}
+use mathlib.Core.List.{List, List·Memᴰ}
+use Prim.Native.Nat.{ℕ, _+_, _-_, _≤_, min}
+use lib.ListN.{length}
+use Rattle.tree.specs.Expr.{NoCollision}
+use Rattle.tree.specs.Label.{wait}
+use Rattle.whole_run.specs.World.{Setup, hashed, signed, accepted}
+use Rattle.whole_run.specs.Runs.{World, Step, NewWorld, run, Fair}
+
+-- The first exception: "users hashed two different strings to one SHA-256 result". Here it did not happen.
+unfoldable pub NoneCollide : World → Type 0
+NoneCollide w = NoCollision (λ s. List·Memᴰ (hashed s) (w .log))
+
+-- The second: "one accepted a signature on a text that its key's owner never signed". Here it did not happen.
+unfoldable pub NoneForged : World → Type 0
+NoneForged w = (a : ℕ) (text : List ℕ) → List·Memᴰ (accepted a text) (w .log) → List·Memᴰ (signed a text) (w .log)
+
+-- "It has proved and read d": user a took in this author and entry.
+unfoldable pub HasRead : World → ℕ → ℕ → ℕ → List ℕ → Type 0
+HasRead w a d author entry = List·Memᴰ (record { position = d; author = author; entry = entry }) (w .users a .reads)
+
+-- "Reads differ if either does."
+unfoldable pub Differ : ℕ → List ℕ → ℕ → List ℕ → Type 0
+Differ x e y f = (x ≡ y) × (e ≡ f) → ⊥
+
+-- "Views ending at v and w after the list, with differing reads of d, have min(v, w) - d + 1 ≤ Q(d, N); where Q is 0 there is no such d."
+unfoldable pub Bounded : Setup → World → ℕ → ℕ → ℕ → Type 0
+Bounded g w a b d =
+    (min (w .users a .view) (w .users b .view) - d + 1 ≤ wait d (g .servers)) × (wait d (g .servers) ≡ 0 → ⊥)
+
+-- The claim, for every group with a log name of 16 bytes, every server H of it, all that a start leaves free, every list of fair
+-- steps, any two users and any d.
+unfoldable pub ForkBound : Type 0
+ForkBound =
+    (g : Setup) → length (g .log) ≡ 16 → 1 ≤ g .follows → g .follows ≤ g .servers → (b : NewWorld) (xs : List Step) → Fair g b xs
+    → NoneCollide (run g b xs) → NoneForged (run g b xs)
+    → (a c d x y : ℕ) (e f : List ℕ) → HasRead (run g b xs) a d x e → HasRead (run g b xs) c d y f → Differ x e y f
+    → Bounded g (run g b xs) a c d
+
+-- The view is the version that a user keeps, though its four events speak of requests and answers.
+unfoldable pub ViewIsVersion : Type 0
+ViewIsVersion =
+    (g : Setup) → length (g .log) ≡ 16 → (b : NewWorld) (xs : List Step) → Fair g b xs → (a : ℕ)
+    → run g b xs .users a .view ≡ run g b xs .users a .state .kept .version

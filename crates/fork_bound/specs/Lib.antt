@@ -1,0 +1,3 @@
+-- Document 01's claim about every list of steps, and a computed run.
+pub mod Claim
+pub mod Sample

@@ -1,0 +1,87 @@
+-- A computed run: on two servers, of which server 1 follows the rules, user 1 begins a write of position 1.
+use mathlib.Core.Path.{_≡_, refl}
+use mathlib.Core.List.{List, [], _∷_}
+use Prim.Native.Nat.{ℕ}
+use lib.ListN.{replicate}
+use Rattle.sha256.specs.Word.{¬32, SHL, SHR, ROTR, Ch, Maj, Σ0, Σ1, σ0, σ1}
+use Rattle.sha256.specs.Constants.{K, H0}
+use Rattle.sha256.specs.Block.{nextW, schedule, T1, T2, round, rounds, sums, compress}
+use Rattle.sha256.specs.Hash.{zeros, padding, pad, words, block, hashValue, bytes, sha256}
+use Rattle.tree.specs.Level as Le
+use Rattle.tree.specs.Label as La
+use Rattle.tree.specs.Expr as Ex
+use Rattle.tree.specs.Tree as Tr
+use Rattle.tree.specs.Cover as Co
+use Rattle.tree.specs.Message as Me
+use Rattle.tree.specs.Setup as Se
+use Rattle.sha256.specs.Bytes as By
+use Rattle.user.specs.Asking as As
+use Rattle.user.specs.Outcome as Ou
+use Rattle.user_update.specs.Update as Up
+use Rattle.firing.specs.Entry as En
+use Rattle.firing.specs.Schedule as Fi
+use Rattle.user_write.specs.Write as Wr
+use Rattle.user_calls.specs.Calls as Ca
+use Rattle.server.specs.Shape as Sh
+use Rattle.server.specs.Store as St
+use Rattle.server.specs.Checks as Ch
+use Rattle.server.specs.Serve as Sv
+use Rattle.whole_run.specs.World as Wo
+use Rattle.whole_run.specs.Runs as Ru
+
+-- Two servers and one user; the memory that it is lent.
+abbrev group : Wo.Setup
+group = record { servers = 2; log = replicate 16 7; users = replicate 56 0; follows = 1 }
+
+abbrev memory : Ou.Lent
+memory =
+    Ou.lentOf (replicate 1248 0) (replicate 1026 0) (replicate 2566 0) (replicate 1024 0)
+    (Ou.keyOf (replicate 16 0) (replicate 32 0) (replicate 65504 0))
+
+-- The answer of a server to a Status, its head being (0, 0), and server 1's answer to the Reserve of (1, 0).
+abbrev fresh : ℕ → List ℕ
+fresh server = 75 ∷ 65 ∷ 1 ∷ server ∷ 0 ∷ 0 ∷ 0 ∷ 0 ∷ 0 ∷ 0 ∷ 0 ∷ 0 ∷ 0 ∷ 0 ∷ 0 ∷ []
+
+abbrev reserved : List ℕ
+reserved = 75 ∷ 65 ∷ 5 ∷ 1 ∷ 0 ∷ 0 ∷ 0 ∷ 1 ∷ 0 ∷ 0 ∷ []
+
+-- All is zero at the start, and server 1 has no room.
+abbrev zeros-first : Ru.NewWorld
+zeros-first =
+    record {
+      users = λ a. record {
+        digest = replicate 32 0;
+        path = replicate 672 0;
+        signature = replicate 2508 0;
+        path-size = refl;
+        signature-size = refl;
+      };
+      server = record { author = 0; digest = replicate 32 0; store = []; digest-size = refl };
+    }
+
+-- What user 1 has handed out last.
+abbrev out : List Ru.Step → List ℕ
+out xs = Ru.run group zeros-first xs .users 1 .sent .bytes
+
+abbrev asks-server-1 : List Ru.Step
+asks-server-1 = Ru.user 1 (Ca.startWrite memory (1 ∷ 65 ∷ []) (replicate 32 0)) ∷ []
+
+abbrev server-1-answers : List Ru.Step
+server-1-answers = Ru.server (out asks-server-1) (replicate 2552 0) ∷ asks-server-1
+
+abbrev reserves : List Ru.Step
+reserves = Ru.user 1 (Ca.answer (fresh 2)) ∷ Ru.user 1 (Ca.answer (fresh 1)) ∷ server-1-answers
+
+abbrev server-1-reserves : List Ru.Step
+server-1-reserves = Ru.server (out reserves) (replicate 2552 0) ∷ reserves
+
+abbrev puts : List Ru.Step
+puts = Ru.user 1 (Ca.answer reserved) ∷ server-1-reserves
+
+-- Server 1 answers the Status of the empty log; user 1, whose Update ends at p* = 0, hands out the first Reserve; server 1 accepts it, and
+-- user 1 goes on with the PutOperation.
+write-begins : (Ru.run group zeros-first server-1-answers .log ≡ Wo.answered (out asks-server-1) (fresh 1) ∷ [])
+    × (Me.requestKind (out reserves) ≡ 5) × (Ru.run group zeros-first server-1-reserves .head .position ≡ 1)
+    × (Me.requestKind (out puts) ≡ 6)
+unfolding Le.leastFrom Le.reaches Le.lg Le.isFull Le.highestFull La.nodesTo La.label La.serverOf La.owner Ex.entryText Ex.leafString Ex.pairString Ex.halfString Ex.value Tr.tree Tr.blockOf Tr.node Co.fits Co.tileLevel Co.tilesIn Co.tiles Co.peaks Co.cover Co.piece Co.cut Co.covers Co.nodesBefore Co.fromCover Co.coverDigest Co.coverPath Co.pathBytes Co.pathWritten Me.requestHeader Me.request Me.answerHeader Me.answer Me.recordHeader Me.stored Me.signedText Se.userCount Se.userKey Se.listed Se.groupFits Se.inLog Se.firstCode By.be By.numberAt By.written By.eqs As.userSettingsFit As.keptFits As.userSetupChecks As.requestRoom As.ofNode As.ofStatus As.asks As.headed As.answerBodyFits As.isAnswer As.answerChecks As.refused As.done As.asking Ou.nothing Up.freshUpdate Up.updateAnswers Up.updateEnded Up.updateWant Up.toldPosition Up.toldLevel Up.toldLabel Up.headHolds Up.statusTaken Up.updateNext Up.updateHashes Up.recordHolds Up.coverGivesOwn Up.coverGivesNew Up.updateChecks Up.arrived Up.updateGoes Up.updateSetup Up.updateStarted Up.updateEarly Up.updateTaken En.strikes En.isSchedule En.entryFits Fi.rulesKept Wr.targetFits Wr.ownLeaf Wr.commitNumber Wr.writeKind Wr.writeLevel Wr.writeWant Wr.pathDigest Wr.writeBody Wr.heldEntry Wr.writeAsks Wr.writeWaits Wr.writeRoom Wr.writeStartChecks Wr.freshWrite Wr.writeStarted Wr.openingChecks Wr.opening Wr.writeOpens Wr.writeUpdates Wr.signsNext Wr.writeChecks Wr.commitSignature Wr.writeSignature Wr.goesOn Wr.signing Wr.committed Wr.writeGoes Wr.writeTaken Sh.levelFits Sh.nodeFits Sh.requestBodyFits Sh.kindFits Sh.requestFits Sh.recordFits St.recordLength St.recordsIn St.records St.sizes St.whole St.isFor St.first St.isStored St.bytesAt St.placeOr Ch.serverSettingsFit Ch.headFits Ch.storeFits Ch.ownsNode Ch.reservable Ch.holdsHead Ch.commitHolds Ch.recordAsked Ch.recordFound Ch.noOther Ch.roomLeft Ch.nodeSource Ch.pullSource Ch.wantedKind Ch.sourceOf Ch.kindChecks Ch.serverSetupChecks Ch.checksOver Ch.requestChecks Sv.headAfter Sv.appends Sv.storeAfter Sv.usedAfter Sv.nodeHash Sv.recordGiven Sv.bodyGiven Sv.headerGiven Sv.answerGiven Sv.refusedSetup Sv.served Sv.replyOf Wo.allHashed Wo.sentBy Wo.sentAfter Wo.returned Wo.viewSent Wo.viewAfter Wo.newReads Wo.after Wo.coverStrings Wo.updateHashed Wo.recordAccepted Wo.openingHashed Wo.writeAccepted Wo.writeSigned Wo.readHashed Wo.answerEvents Wo.startEvents Wo.eventsOf Wo.unlessRefused Wo.userAfter Wo.userStep Ca.strayCode Ca.taken Ca.stepped Ru.newUser Ru.newHead Ru.newWorld Ru.withUser Ru.serverEvents Ru.withServer Ru.step Ru.run ¬32 SHL SHR ROTR Ch Maj Σ0 Σ1 σ0 σ1 K H0 nextW schedule T1 T2 round rounds sums compress zeros padding pad words block hashValue bytes sha256
+write-begins = (refl, refl, refl, refl)

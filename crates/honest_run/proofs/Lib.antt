@@ -1,0 +1,47 @@
+-- what holds between the steps of an honest run, and laws of its log, of one state changed, of labels and of keys
+pub mod Invariant
+pub mod Log
+pub mod Frames
+pub mod Heads
+pub mod Keys
+pub mod Nodes
+-- its servers
+pub mod Served
+pub mod Records
+pub mod Counts
+pub mod Servers
+pub mod Pulls
+pub mod Reserves
+pub mod Stores
+pub mod Room
+pub mod Puts
+-- its users: Update and Read, then Write
+pub mod Answers
+pub mod Updates
+pub mod Status
+pub mod Contents
+pub mod UpdateSteps
+pub mod ReadSteps
+pub mod Bodies
+pub mod Opening
+pub mod Writes
+pub mod Signing
+-- users and servers together: a call's start, each of its answers, and every list of calls
+pub mod Moves
+pub mod Exchanges
+pub mod Calls
+pub mod Steps
+pub mod OpenRequests
+pub mod Starts
+pub mod WriteStarts
+pub mod ReadStarts
+pub mod UpdateAnswers
+pub mod UpdateCalls
+pub mod WriteCalls
+pub mod OpenCalls
+pub mod ReadCalls
+pub mod Refused
+pub mod Run
+pub mod Theorem
+pub mod Target
+pub mod Sample

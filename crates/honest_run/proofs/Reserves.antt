@@ -1,0 +1,208 @@
+-- The owner of a node of the open write: where its head stands, and what a Reserve of an honest run leaves.
+use mathlib.Core.Path.{_≡_, refl, ap, sym, _∙_, subst}
+use mathlib.Core.Bool.{Bool, true, cond}
+use mathlib.Core.List.{List, []}
+use Prim.Native.Nat.{ℕ, suc, _+_, _-_, _≤_, _<_, max}
+use native.Mathlib.Omega.{arith}
+use lib.Dec.{eqb}
+use lib.ListN.{length}
+use lib.Seq.{take-all}
+use borrow.Author.Tests.{eq-eqb, lt-ltb, le-ltb}
+use Rattle.sha256.specs.Bytes.{eqs}
+use Rattle.sha256.proofs.Laws.{eqs-refl}
+use Rattle.tree.specs.Level.{lg}
+use Rattle.tree.specs.Label.{nodesTo, label, owner}
+use Rattle.tree.specs.Cover.{piece}
+use Rattle.tree.specs.Message.{requestBody, answer}
+use Rattle.tree.specs.Setup.{userCount}
+use Rattle.tree.proofs.Cases.{cases-le, cases-eq}
+use Rattle.tree.proofs.Levels.{lg-below}
+use Rattle.tree.proofs.Pieces.{piece-whole}
+use Rattle.server.specs.declared.Head.{Head}
+use Rattle.server.specs.Shape.{levelFits, nodeFits, requestBodyFits}
+use Rattle.server.specs.Checks.{reservable, recordFound, pullSource}
+use Rattle.server.specs.Serve.{bodyGiven}
+use Rattle.server.proofs.After.{head-level}
+use Rattle.server.proofs.Codes.{code-reserve}
+use Rattle.server.proofs.Effects.{level-other, level-higher, level-kept, head-reserved}
+use Rattle.server.proofs.Served.{Ready, Early}
+use Rattle.server.proofs.Theorems.{store-changes-only-by-puts}
+use Rattle.user.specs.Asking.{asks}
+use Rattle.honest_run.specs.Network.{HonestSetup, InRange, publicTo, settingsIn, Server, answerBytes, serverAfter}
+use Rattle.honest_run.proofs.Invariant.{Item, digestOf, recordOf, has, reached, ownerOf, ServerOk, ItemOk}
+use Rattle.honest_run.proofs.Log.{digest-size}
+use Rattle.honest_run.proofs.Heads.{owner-label, above-own, taken, passed, label-is, label-le, position-le, position-gt}
+use Rattle.honest_run.proofs.Keys.{user-count}
+use Rattle.honest_run.proofs.Served.{server-is, Asked, asked-fields, early-asked, left, held, kindCode, answered-with, left-head, ready-left}
+use Rattle.honest_run.proofs.Records.{node-in-log}
+use Rattle.honest_run.proofs.Counts.{has-step, reached-low, reached-high, reached-le, number-low}
+
+-- a Reserve stores nothing
+has-reserve : (w g kind p l : ℕ) → g ≤ lg (suc w) → has w (suc g) kind p l ≡ has w g kind p l
+has-reserve w g kind p l a =
+    has-step w g kind p l (λ e n. let h = number-low kind p l in let i : lg p ≡ lg (suc w) = ap lg e in omega arith)
+
+module _ (c : HonestSetup) (range : InRange c) (L : ℕ → Item) (w g s : ℕ) (one : 1 ≤ s) (last : s ≤ c .servers) (x : Server) (ok : ServerOk c L w g s x) where
+  -- there are servers
+  some-servers : 0 < c .servers
+  some-servers = let t = range .two in omega arith
+
+  -- the head is at the open write's position at most
+  head-top : x .head .position ≤ suc w
+  head-top =
+      let a = ok .head .low in
+      let b = reached-le w g in
+      position-le (x .head .position) (x .head .level) (suc w) (omega arith)
+
+  -- where it has reserved level l already, the head is there or above
+  pub head-here : (l : ℕ) → l ≤ lg (suc w) → l < g → owner (c .servers) (suc w) l ≡ s → (x .head .position ≡ suc w) × (l ≤ x .head .level)
+  head-here l a b o =
+      let e = label-is w l in
+      let low : label (suc w) l ≤ reached w g =
+      cases-le g (lg (suc w) + 1)
+      (λ i. let r = reached-low w g i in omega arith)
+      (λ i. let r = reached-high w g (omega arith) in let t = label-le (suc w) l (omega arith) a in omega arith) in
+      let up =
+      above-own (c .servers) s (reached w g) (label (x .head .position) (x .head .level)) (label (suc w) l) some-servers last (ok .head)
+      (sym (owner-label (c .servers) (suc w) l some-servers) ∙ o) (omega arith) low in
+      let far = position-gt (x .head .position) (x .head .level) w (head-level (userCount (publicTo c (c .count))) (x .head) (ok .ready .head)) (omega arith) in
+      let there : x .head .position ≡ suc w = let t = head-top in omega arith in
+      let same : label (x .head .position) (x .head .level) ≡ label (suc w) (x .head .level) = ap (λ (p : ℕ). label p (x .head .level)) there in
+      (there, let f = label-is w (x .head .level) in omega arith)
+
+  -- and no higher than the levels that have arrived
+  head-below : g ≤ lg (suc w) → x .head .position ≡ suc w → x .head .level < g
+  head-below a there =
+      let low = ok .head .low in
+      let same : label (x .head .position) (x .head .level) ≡ label (suc w) (x .head .level) = ap (λ (p : ℕ). label p (x .head .level)) there in
+      let f = label-is w (x .head .level) in
+      let r = reached-low w g (omega arith) in
+      omega arith
+
+  -- a server that the next Reserve is not for
+  pub reserve-elsewhere : g ≤ lg (suc w) → (owner (c .servers) (suc w) g ≡ s → ⊥) → ServerOk c L w (suc g) s x
+  reserve-elsewhere a other =
+      let r = reached-low w g (omega arith) in
+      let e : reached w (suc g) ≡ suc (reached w g) = let q = reached-low w (suc g) (omega arith) in omega arith in
+      let f : label (suc w) g ≡ suc (reached w g) = let q = label-is w g in omega arith in
+      let no : ownerOf (c .servers) (suc (reached w g)) ≡ s → ⊥ =
+      λ q. other (owner-label (c .servers) (suc w) g some-servers ∙ ap (ownerOf (c .servers)) f ∙ q) in
+      record {
+        ready = ok .ready;
+        head = rw e (passed (c .servers) s (reached w g) (label (x .head .position) (x .head .level)) one last no (ok .head));
+        holds = ok .holds;
+        stored = λ kind p l k v o. ok .stored kind p l k v o ∙ ap (λ (b : Bool). cond b (recordOf L kind p l) []) (sym (has-reserve w g kind p l a));
+      }
+
+  -- the Reserve of level j
+  module _ (within : w < 1048576) (item : ItemOk c L w) (j : ℕ) (level : j ≤ lg (suc w))
+      (own : owner (c .servers) (suc w) j ≡ s) where
+    abbrev author : ℕ
+    author = L w .author
+
+    abbrev reserved : List ℕ
+    reserved = digestOf L (suc w)
+
+    -- the bytes of the Reserve
+    abbrev pub reserve : List ℕ
+    reserve = asks (settingsIn c author) (record { kind = 5; server = s; position = suc w; level = j }) reserved
+
+    -- its fields as the server reads them
+    fields : Asked c author 5 (suc w) j reserved reserve
+    fields =
+        asked-fields c range author (record { kind = 5; server = s; position = suc w; level = j }) reserved (omega arith)
+        (let t = item .listed in let u = range .sixty-four in omega arith) (omega arith)
+        (let t = lg-below (suc w) 20 (omega arith) in omega arith)
+
+    -- checks 1 to 3 pass
+    early : Early (settingsIn c s) reserve
+    unfolding nodeFits levelFits requestBodyFits
+    early =
+        early-asked c (user-count c range) author 5 (suc w) j s reserved reserve fields (item .one) (item .listed)
+        (rw (node-in-log (suc w) j (omega arith) (omega arith) level)) (rw (digest-size L (suc w))) (λ _. own)
+
+    -- check 4 passes
+    accepts : reservable (x .head) reserve ≡ true
+    unfolding reservable
+    accepts =
+        let f = fields in
+        cases-eq (x .head .position) (suc w)
+        (λ there.
+        let k = ok .holds there in
+        let d : eqs reserved (x .head .digest) ≡ true = ap (eqs reserved) (k .1) ∙ eqs-refl reserved in
+        rw (
+          f .position-is,
+          f .author-is,
+          f .body-is,
+          le-ltb (x .head .position) (suc w) (omega arith),
+          eq-eqb (suc w) (x .head .position) (sym there),
+          eq-eqb author (x .head .author) (sym (k .0)),
+        ) d)
+        (λ n. let t = head-top in rw (f .position-is, lt-ltb (x .head .position) (suc w) (omega arith)))
+
+    -- so the code is 0
+    zero-code : kindCode c s x reserve ≡ 0
+    zero-code =
+        let e = fields .kind-is in
+        sym (code-reserve (c .log) (publicTo c (c .count)) (x .head) (recordFound (held c s x reserve) reserve) (pullSource (held c s x reserve) reserve)
+        (length (x .store) - x .used) reserve 5 (sym e) 0 (λ z. omega arith) (omega arith) refl (rw accepts))
+
+    -- it is answered with an empty body
+    pub reserve-given : answerBytes (left c s x reserve) ≡ answer 5 s (suc w) j 0 []
+    unfolding bodyGiven
+    reserve-given = answered-with c s x reserve (ok .ready) early zero-code author 5 (suc w) j reserved fields ∙ rw (fields .kind-is)
+
+    -- the server after it, with the head's level l
+    reserve-left : (l : ℕ) → l ≡ cond (eqb (suc w) (x .head .position)) (max (x .head .level) j) j
+        → serverAfter (left c s x reserve)
+        ≡ record { head = record { position = suc w; level = l; author = author; digest = reserved }; store = x .store; used = x .used }
+    unfolding serverAfter
+    reserve-left l e =
+        let f = fields in
+        let t = store-changes-only-by-puts (settingsIn c s) (x .head) (x .store) (x .used) reserve (c .answers s) (rw (f .kind-is) (omega arith)) in
+        let n = digest-size L (suc w) in
+        let d : reserved ≡ piece (requestBody reserve) 0 =
+        sym (ap (λ (b : List ℕ). piece b 0) (f .body-is) ∙ piece-whole reserved 0 (omega arith) ∙ take-all 32 reserved (omega arith)) in
+        let h =
+        head-reserved (x .head) reserve 0 5 (suc w) l author reserved (sym (f .kind-is)) refl refl (sym (f .position-is))
+        (rw (f .position-is, f .level-is) e) (sym (f .author-is)) d in
+        server-is (record { head = record { position = suc w; level = l; author = author; digest = reserved }; store = x .store; used = x .used })
+        _ _ _ (left-head c s x reserve (ok .ready) early zero-code ∙ sym h) (t .0) (t .1)
+
+    -- again: nothing changes
+    pub reserve-again : j < g → serverAfter (left c s x reserve) ≡ x
+    reserve-again b =
+        let h = head-here j level b own in
+        let k = ok .holds (h .0) in
+        reserve-left (x .head .level) (level-kept (suc w) (x .head .position) (x .head .level) j (sym (h .0)) (h .1))
+        ∙ server-is x _ _ _ (head-is (x .head) (suc w) (x .head .level) author reserved (sym (h .0)) refl (sym (k .0)) (sym (k .1))) refl refl
+      where
+        head-is : (y : Head) (p l a : ℕ) (d : List ℕ) → p ≡ y .position → l ≡ y .level → a ≡ y .author → d ≡ y .digest
+            → _≡_ {A = Head} (record { position = p; level = l; author = a; digest = d }) y
+        head-is y p l a d ep el ea ed = rw (ep, el, ea, ed)
+
+    -- the next one: it is the head now
+    pub next-left : j ≡ g
+        → serverAfter (left c s x reserve)
+        ≡ record { head = record { position = suc w; level = j; author = author; digest = reserved }; store = x .store; used = x .used }
+    next-left e =
+        reserve-left j
+        (cases-eq (x .head .position) (suc w)
+        (λ there. let t = head-below (omega arith) there in level-higher (suc w) (x .head .position) (x .head .level) j (sym there) (omega arith))
+        (λ n. level-other (suc w) (x .head .position) (x .head .level) j (λ q. n (sym q))))
+
+    -- and what holds of the server holds with one request more
+    pub reserve-next : j ≡ g → ServerOk c L w (suc g) s (serverAfter (left c s x reserve))
+    reserve-next e =
+        let y = next-left e in
+        let r : reached w (suc g) ≡ suc (nodesTo w + j) = let q = reached-low w (suc g) (omega arith) in omega arith in
+        let f : label (suc w) j ≡ suc (nodesTo w + j) = let q = label-is w j in omega arith in
+        subst (λ (z : Server). ServerOk c L w (suc g) s z) (sym y)
+        (record {
+          ready = subst (λ (z : Server). Ready (settingsIn c s) (z .head) (z .store) (z .used)) y (ready-left c s x reserve (ok .ready) early zero-code);
+          head = rw (r, f) (taken (c .servers) s (nodesTo w + j) some-servers
+              (sym (ap (ownerOf (c .servers)) f) ∙ sym (owner-label (c .servers) (suc w) j some-servers) ∙ own));
+          holds = λ _. (refl, refl);
+          stored = λ kind p l k v o. ok .stored kind p l k v o
+              ∙ ap (λ (b : Bool). cond b (recordOf L kind p l) []) (sym (has-reserve w g kind p l (omega arith)));
+        })

@@ -1,0 +1,123 @@
+-- What holds of a server while the log moves on: a write opens, is signed, and is committed.
+use mathlib.Core.Path.{_≡_, refl, ap, ap₂, sym, _∙_}
+use mathlib.Core.Bool.{Bool, true, cond}
+use mathlib.Core.List.{List, [], _++_}
+use Prim.Native.Nat.{ℕ, suc, _-_, _≤_, _<_}
+use native.Mathlib.Omega.{arith}
+use Rattle.tree.specs.Label.{label}
+use Rattle.tree.specs.Expr.{entryText}
+use Rattle.tree.specs.Message.{stored}
+use Rattle.tree.proofs.Cases.{by-bool}
+use Rattle.server.specs.Shape.{nodeFits}
+use Rattle.server.specs.Store.{records, recordsIn, sizes, whole, first}
+use Rattle.server.specs.Checks.{serverSettingsFit, headFits}
+use Rattle.server.proofs.Asked.{names-node, in-log}
+use Rattle.user_write.specs.Write.{commitNumber}
+use Rattle.whole_run.specs.Runs.{NewServer, newHead}
+use Rattle.honest_run.specs.Network.{HonestSetup, publicTo, Server}
+use Rattle.honest_run.proofs.Invariant.{Item, texts, digestOf, bodyOf, recordOf, has, reached, HeadAt, ServerOk}
+use Rattle.honest_run.proofs.Log.{same-hash, same-digest}
+use Rattle.honest_run.proofs.Heads.{at-first, nodes-zero, label-zero, position-le}
+use Rattle.honest_run.proofs.Records.{by-stored-kind}
+use Rattle.honest_run.proofs.Counts.{has-none, by-has, reached-zero, reached-high, has-done}
+
+-- a record is of a position from 1
+stored-position : (kind p l : ℕ) → 6 ≤ kind → nodeFits kind p l ≡ true → 0 < p
+stored-position kind p l k f = in-log p l (names-node kind p l (λ e. omega arith) f .0) .0
+
+-- Logs with the same records, as far as they are stored, and the same head.
+server-as : (c : HonestSetup) (L M : ℕ → Item) (w g s : ℕ) (x : Server)
+    → ((kind p l : ℕ) → 6 ≤ kind → nodeFits kind p l ≡ true → has w g kind p l ≡ true → recordOf L kind p l ≡ recordOf M kind p l)
+    → (x .head .position ≡ suc w → (L w .author ≡ M w .author) × (digestOf L (suc w) ≡ digestOf M (suc w)))
+    → ServerOk c L w g s x → ServerOk c M w g s x
+server-as c L M w g s x same head ok =
+    record {
+      ready = ok .ready;
+      head = ok .head;
+      holds = λ e. let a = ok .holds e in let b = head e in (a .0 ∙ b .0, a .1 ∙ b .1);
+      stored = λ kind p l k f o. ok .stored kind p l k f o
+          ∙ by-bool (λ b. has w g kind p l ≡ b → cond b (recordOf L kind p l) [] ≡ cond b (recordOf M kind p l) []) (has w g kind p l)
+          (λ _ t. same kind p l k f t) (λ _ t. refl) refl;
+    }
+
+-- the record of a node depends on the log up to its position
+record-same : (L M : ℕ → Item) (kind p l : ℕ) → 6 ≤ kind → nodeFits kind p l ≡ true
+    → ((i : ℕ) → i < p → (L i .author ≡ M i .author) × (L i .entry ≡ M i .entry))
+    → (kind ≡ 8 → L (p - 1) .signature ≡ M (p - 1) .signature) → recordOf L kind p l ≡ recordOf M kind p l
+record-same L M kind p l k f same signed =
+    let z = stored-position kind p l k f in
+    let a : L (p - 1) .author ≡ M (p - 1) .author = same (p - 1) (omega arith) .0 in
+    let b : L (p - 1) .entry ≡ M (p - 1) .entry = same (p - 1) (omega arith) .1 in
+    let t : (i : ℕ) → i < p → texts L i ≡ texts M i = λ i h. ap₂ entryText (same i h .0) (same i h .1) in
+    let body : bodyOf L kind p l ≡ bodyOf M kind p l =
+    by-stored-kind kind p l k f
+    (λ e _. rw e b)
+    (λ e _ _. rw e (same-hash L M p l z t))
+    (λ e _. rw e (ap₂ (λ (d s : List ℕ). d ++ s) (same-digest L M p z t) (signed e))) in
+    ap₂ (λ (n : ℕ) (r : List ℕ). stored kind p l n r) a body
+
+-- A head's position where no request of the open write has arrived.
+head-position : (c : HonestSetup) (L : ℕ → Item) (w s : ℕ) (x : Server) → ServerOk c L w 0 s x → x .head .position ≤ w
+head-position c L w s x ok =
+    let a = ok .head .low in
+    let e = reached-zero w in
+    position-le (x .head .position) (x .head .level) w (omega arith)
+
+-- A write opens: the place behind the committed ones gets another item.
+pub server-opens : (c : HonestSetup) (L M : ℕ → Item) (w s : ℕ) (x : Server) → ((i : ℕ) → i < w → L i ≡ M i)
+    → ServerOk c L w 0 s x → ServerOk c M w 0 s x
+server-opens c L M w s x same ok =
+    server-as c L M w 0 s x
+    (λ kind p l k f t. by-has w 0 kind p l t
+    (λ low.
+    record-same L M kind p l k f (λ i h. let e = same i (omega arith) in (ap (λ (y : Item). y .author) e, ap (λ (y : Item). y .entry) e))
+    (λ _. let z = stored-position kind p l k f in ap (λ (y : Item). y .signature) (same (p - 1) (omega arith))))
+    (λ e n. absurd (omega arith)))
+    (λ e. let a = head-position c L w s x ok in absurd (omega arith)) ok
+
+-- It is signed: the item's signature changes, and no Commit has arrived.
+pub server-signs : (c : HonestSetup) (L M : ℕ → Item) (w g s : ℕ) (x : Server)
+    → ((i : ℕ) → i ≤ w → (L i .author ≡ M i .author) × (L i .entry ≡ M i .entry))
+    → ((i : ℕ) → i < w → L i .signature ≡ M i .signature) → g ≤ commitNumber (suc w)
+    → ServerOk c L w g s x → ServerOk c M w g s x
+server-signs c L M w g s x same signed few ok =
+    server-as c L M w g s x
+    (λ kind p l k f t. let z = stored-position kind p l k f in
+    by-has w g kind p l t
+    (λ low. record-same L M kind p l k f (λ i h. same i (omega arith)) (λ _. signed (p - 1) (omega arith)))
+    (λ e n.
+    record-same L M kind p l k f (λ i h. same i (omega arith))
+    (λ q. absurd (let h : commitNumber (suc w) < g = rw (q, e) at n in omega arith))))
+    (λ e. (same w (omega arith) .0, same-digest L M (suc w) (omega arith) (λ i h. let t = same i (omega arith) in ap₂ entryText (t .0) (t .1))))
+    ok
+
+-- It is committed: all its requests have arrived.
+pub server-commits : (c : HonestSetup) (L : ℕ → Item) (w s : ℕ) (x : Server) → ServerOk c L w (suc (commitNumber (suc w))) s x → ServerOk c L (suc w) 0 s x
+unfolding commitNumber
+server-commits c L w s x ok =
+    let e : reached w (suc (commitNumber (suc w))) ≡ reached (suc w) 0 =
+    reached-high w (suc (commitNumber (suc w))) (omega arith) ∙ sym (reached-zero (suc w)) in
+    let head : HeadAt (c .servers) s (reached (suc w) 0) (label (x .head .position) (x .head .level)) = rw e at (ok .head) in
+    record {
+      ready = ok .ready;
+      head = head;
+      holds = λ q.
+          let a = head .low in
+          let z = reached-zero (suc w) in
+          let b = position-le (x .head .position) (x .head .level) (suc w) (omega arith) in
+          absurd (omega arith);
+      stored = λ kind p l k f o. ok .stored kind p l k f o
+          ∙ ap (λ (b : Bool). cond b (recordOf L kind p l) []) (has-done w kind p l (stored-position kind p l k f) k f);
+    }
+
+-- At first: head (0, 0), and nothing stored.
+pub server-at-first : (c : HonestSetup) (L : ℕ → Item) (s : ℕ) (b : NewServer) → 1 ≤ s → serverSettingsFit (c .servers) s (publicTo c (c .count)) ≡ true
+    → ServerOk c L 0 0 s (record { head = newHead b; store = b .store; used = 0 })
+unfolding headFits whole records recordsIn sizes first newHead
+server-at-first c L s b low fits =
+    record {
+      ready = record { settings = fits; head = refl; within = omega arith; records = refl };
+      head = rw (reached-zero 0, nodes-zero, label-zero 0) (at-first (c .servers) s low);
+      holds = λ e. absurd (omega arith);
+      stored = λ kind p l k f o. sym (ap (λ (b : Bool). cond b (recordOf L kind p l) []) (has-none 0 kind p l (stored-position kind p l k f)));
+    }

@@ -1,0 +1,142 @@
+-- A valid call of an honest run starts: it is not refused, and is on its way with its count of answers to come.
+use mathlib.Core.Path.{_≡_, refl, ap, sym, _∙_, subst}
+use mathlib.Core.Bool.{true, false}
+use mathlib.Core.List.{List, []}
+use Prim.Native.Nat.{ℕ, _≤_, _<_}
+use native.Mathlib.Omega.{arith}
+use native.Mathlib.Nat.{zero-add}
+use borrow.Author.Tests.{eq-eqb}
+use Rattle.sha256.proofs.Cases.{by-bool}
+use Rattle.tree.proofs.Cases.{not-both}
+use Rattle.user.specs.Asking.{keptFits, asking}
+use Rattle.user.specs.Outcome.{State, Lent, Outcome}
+use Rattle.user_update.specs.Update.{freshUpdate, updateGoes, updateStarted, updateWant, updateAnswers}
+use Rattle.user_update.proofs.UpdateRules.{by-goes, fresh-waits, goingOn}
+use Rattle.user_calls.specs.Calls.{updating, Input, startUpdate, startWrite, startRead, asCall, stepped, answer, Call}
+use Rattle.whole_run.specs.World.{User, userStep, returned, sentAfter, unlessRefused, newReads, after, userAfter}
+use Rattle.honest_run.specs.Network.{HonestSetup, InRange, settingsIn, Network, steps, Run, entryBegun}
+use Rattle.honest_run.specs.Claim.{Alone, ValidMemory, ValidUpdate, ValidInput, ValidCall, answersOf, countOf}
+use Rattle.honest_run.proofs.Invariant.{Item, Good}
+use Rattle.honest_run.proofs.Frames.{set-same, sent-for, memory-asks, handedOut}
+use Rattle.honest_run.proofs.Keys.{user-count, user-settings, kept-fits-shut, kept-fits-open}
+use Rattle.honest_run.proofs.Answers.{Fit}
+use Rattle.honest_run.proofs.Updates.{fresh-update}
+use Rattle.honest_run.proofs.UpdateSteps.{update-starts}
+use Rattle.honest_run.proofs.Moves.{withUser, none-open, leaves-same}
+use Rattle.honest_run.proofs.Calls.{Updates, UpdateCall, CallOk, begunBy, Between, OnWay, Started}
+use Rattle.honest_run.proofs.Steps.{on-way-from}
+
+-- what a user keeps is in range
+kept-fits : (c : HonestSetup) (L : ℕ → Item) (w g a : ℕ) (b : ℕ → List ℕ) (x : Network) → Good c L w g b x → keptFits (x .users a .state .kept) ≡ true
+kept-fits c L w g a b x good =
+    let u = good .users-ok a in
+    let k = x .users a .state .kept in
+    by-bool (λ t. k .opened ≡ t → keptFits k ≡ true) (k .opened)
+    (λ _ e. let ok = u .open-ok e in kept-fits-open k (omega (arith, ok .version, ok .within)) (u .number))
+    (λ _ e. kept-fits-shut k e (omega (arith, u .low, good .within)) (u .number)) refl
+
+-- the user's settings, and what it keeps, are those of a user in this log
+pub fit-user : (c : HonestSetup) → InRange c → (L : ℕ → Item) (w g a : ℕ) (b : ℕ → List ℕ) (x : Network) → 1 ≤ a → a ≤ c .count → Good c L w g b x
+    → Fit c L w a (x .users a .state .kept)
+fit-user c range L w g a b x one last good =
+    record {
+      settings-fit = user-settings c range a one last;
+      kept-fit = kept-fits c L w g a b x good;
+      low = good .users-ok a .low;
+      within = good .within;
+      digest-ok = good .users-ok a .digest-ok;
+      items = good .items;
+      counted = user-count c range;
+    }
+
+-- a step with code 0 leaves the user with what the call left
+user-after : (u : User) (o : Outcome Call) (i : Input) → o .step .code ≡ 0 → userAfter u o i ≡ after u o
+unfolding userAfter unlessRefused
+user-after u o (startUpdate m) z = rw (eq-eqb (o .step .code) 0 z)
+user-after u o (startWrite m entry randomizer) z = rw (eq-eqb (o .step .code) 0 z)
+user-after u o (startRead m i) z = rw (eq-eqb (o .step .code) 0 z)
+user-after u o (answer y) z = refl
+
+-- a start that leaves o, with what was kept, and has a request out: the call is on its way
+pub start-goes : (c : HonestSetup) (r : Run) (a : ℕ) (i : Input) (n : ℕ) (o : Outcome Call) (between : Between c r) → Alone (r .network) a → 0 < n
+    → stepped (settingsIn c a) (r .network .users a .state) (r .network .users a .lent) (r .network .users a .call) i ≡ o
+    → o .step .code ≡ 0 → o .step .ended ≡ false → o .state ≡ r .network .users a .state
+    → after (r .network .users a) o .reads ≡ r .network .users a .reads
+    → (r .network .users a .state .kept .opened ≡ true → entryBegun i (r .begun a) ≡ r .begun a)
+    → CallOk c (between .log) (between .w) (between .g) a n (after (r .network .users a) o) (r .network .servers) i → Started c r a i n
+unfolding steps userStep after
+start-goes c r a i n o between alone some is code ended state-same reads-same entry-same call =
+    let x = r .network in
+    let u = x .users a in
+    let g = between .g in
+    record {
+      some = some;
+      code = ap (λ (z : Outcome Call). z .step .code) is ∙ code;
+      ended = ap (λ (z : Outcome Call). z .step .ended) is ∙ ended;
+      on-way =
+          subst (λ (v : User). OnWay c r a i n (withUser x a v (x .servers)))
+          (sym (ap (λ (z : Outcome Call). userAfter u z i) is ∙ user-after u o i code))
+          (on-way-from c r a i (between .log) (between .log) (between .w) g g n (r .begun) x (after u o) (x .servers) (between .good) alone
+          (between .holds) refl (λ j h. refl)
+          (leaves-same c (between .log) (between .w) g a (r .begun) x (between .good) alone (o .state) (x .servers) (begunBy r a i a) state-same
+          (λ t. set-same (r .begun) a (entryBegun i (r .begun a)) ∙ entry-same t) (λ s one. refl)) reads-same call);
+    }
+
+-- the first Status goes out
+pub first-status : (c : HonestSetup) → InRange c → (a : ℕ) (σ : State) (m : Lent)
+    → updateGoes (settingsIn c a) σ m freshUpdate ≡ goingOn (settingsIn c a) σ m freshUpdate
+first-status c range a σ m =
+    by-goes (settingsIn c a) σ m freshUpdate (λ l. l ≡ goingOn (settingsIn c a) σ m freshUpdate)
+    (λ e. not-both _ e (fresh-waits (c .servers) (σ .kept .version) (omega (arith, range .two)))) (λ _. refl)
+
+-- with nothing open and memory m: the Update that starts, a call of its own or a Write's
+pub first-updates : (c : HonestSetup) → InRange c → (r : Run) (a : ℕ) (between : Between c r) → Alone (r .network) a
+    → r .network .users a .state .kept .opened ≡ false → (m : Lent) → ValidMemory m
+    → Updates c (between .log) (between .w) (between .g) a (r .network .users a .state) (m .hashes)
+    (handedOut c a (updateWant (c .servers) (r .network .users a .state .kept .version) freshUpdate) [] (m .request)) freshUpdate
+first-updates c range r a between alone shut m memory =
+    let v = r .network .users a .state .kept .version in
+    record {
+      none-open = none-open c (between .log) (between .w) (between .g) a (r .begun) (r .network) (between .good) alone shut;
+      shut = shut;
+      on-way = fresh-update (c .servers) v (between .w) (between .log) (m .hashes) (omega (arith, range .two));
+      waits = fresh-waits (c .servers) v (omega (arith, range .two));
+      asks-next = sent-for c range a (updateWant (c .servers) v freshUpdate) [] (m .request) (omega (arith, memory .request));
+    }
+
+-- an Update
+module _ (c : HonestSetup) (range : InRange c) (r : Run) (a : ℕ) (m : Lent) (between : Between c r) (valid : ValidCall c r a (startUpdate m)) where
+  abbrev user : User
+  user = r .network .users a
+
+  abbrev asks-first : Outcome Call
+  asks-first = asCall updating (goingOn (settingsIn c a) (user .state) m freshUpdate)
+
+  input : ValidUpdate (user .state .kept) m
+  unfolding ValidInput
+  input = valid .input
+
+  fit : Fit c (between .log) (between .w) a (user .state .kept)
+  fit = fit-user c range (between .log) (between .w) (between .g) a (r .begun) (r .network) (valid .one) (valid .listed) (between .good)
+
+  starts : updateStarted (settingsIn c a) (user .state) m ≡ goingOn (settingsIn c a) (user .state) m freshUpdate
+  starts =
+      update-starts c (between .log) (between .w) a (user .state) m fit (input .shut) (input .memory .request) ∙ first-status c range a (user .state) m
+
+  call : UpdateCall c (between .log) (between .w) (between .g) a (countOf c r a (startUpdate m)) (after user asks-first)
+  unfolding after answersOf freshUpdate asking sentAfter returned
+  call =
+      record {
+        call = freshUpdate;
+        is = refl;
+        memory = memory-asks m _ (input .memory);
+        updates = first-updates c range r a between (valid .alone) (input .shut) m (input .memory);
+        count = zero-add _ ∙ ap (updateAnswers (c .servers) (user .state .kept .version)) (sym (between .holds .count));
+      }
+
+  -- a valid Update starts
+  pub update-start : Started c r a (startUpdate m) (countOf c r a (startUpdate m))
+  unfolding stepped CallOk entryBegun answersOf updateAnswers asking after newReads
+  update-start =
+      start-goes c r a (startUpdate m) (countOf c r a (startUpdate m)) asks-first between (valid .alone) (omega (arith, range .two))
+      (ap (asCall updating) starts) refl refl refl refl (λ _. refl) call
