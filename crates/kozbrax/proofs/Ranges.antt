@@ -1,6 +1,6 @@
 -- What the range tests of the exports tell.
 use mathlib.Core.Path.{_≡_, refl, _∙_, sym, ap}
-use mathlib.Core.Bool.{Bool, true, false, not}
+use mathlib.Core.Bool.{Bool, true, false, not, _&&_}
 use mathlib.Core.List.{List}
 use Prim.Native.Nat.{ℕ, zero, suc, _+_, _*_, _/_, _%_, _≤_, _<_}
 use native.Mathlib.Nat.{mul-le-mul-right}
@@ -21,29 +21,22 @@ use Rattle.kozbrax.specs.Hash.{hashCode}
 use Rattle.kozbrax.specs.Tree.{none, isPosition, isCount, firstLabelGiven, ownerGiven, waitGiven, leavesFit, digestCode, digestLeft}
 
 -- the tests, by the way through them
-pub position-low : (p : ℕ) → p < 1 → false ≡ isPosition p
-unfolding isPosition
-position-low p h = rw (lt-leb 1 p h)
+pub within-low : (least most n : ℕ) → n < least → false ≡ leb least n && leb n most
+within-low least most n h = rw (lt-leb least n h)
 
-pub position-rest : (p : ℕ) → 1 ≤ p → leb p 1048576 ≡ isPosition p
-unfolding isPosition
-position-rest p h = rw (le-leb 1 p h)
+pub within-rest : (least most n : ℕ) → least ≤ n → leb n most ≡ leb least n && leb n most
+within-rest least most n h = rw (le-leb least n h)
+
+within-told : (least most n : ℕ) → (leb least n && leb n most) ≡ true → (least ≤ n) × (n ≤ most)
+within-told least most n e = let t = and-true (leb least n) (leb n most) e in (leb-true least n (t .0), leb-true n most (t .1))
 
 pub position-told : (p : ℕ) → isPosition p ≡ true → (1 ≤ p) × (p ≤ 1048576)
 unfolding isPosition
-position-told p e = let t = and-true (leb 1 p) (leb p 1048576) e in (leb-true 1 p (t .0), leb-true p 1048576 (t .1))
-
-pub count-low : (n : ℕ) → n < 2 → false ≡ isCount n
-unfolding isCount
-count-low n h = rw (lt-leb 2 n h)
-
-pub count-rest : (n : ℕ) → 2 ≤ n → leb n 16 ≡ isCount n
-unfolding isCount
-count-rest n h = rw (le-leb 2 n h)
+position-told p e = within-told 1 1048576 p e
 
 pub count-told : (n : ℕ) → isCount n ≡ true → (2 ≤ n) × (n ≤ 16)
 unfolding isCount
-count-told n e = let t = and-true (leb 2 n) (leb n 16) e in (leb-true 2 n (t .0), leb-true n 16 (t .1))
+count-told n e = within-told 2 16 n e
 
 -- the labels of a log fit 32 bits
 pub label-small : (p : ℕ) → 1 ≤ p → p ≤ 1048576 → label p 0 < 4294967296
@@ -69,12 +62,12 @@ unfolding leavesFit
 leaves-uneven s n = rw (ne-eqb (length s % 32) 0 n)
 
 pub leaves-none : (s : List ℕ) → length s % 32 ≡ 0 → length s / 32 < 1 → false ≡ leavesFit s
-unfolding leavesFit
-leaves-none s e h = rw (eq-eqb (length s % 32) 0 e) (position-low (length s / 32) h)
+unfolding leavesFit isPosition
+leaves-none s e h = rw (eq-eqb (length s % 32) 0 e) (within-low 1 1048576 (length s / 32) h)
 
 pub leaves-rest : (s : List ℕ) → length s % 32 ≡ 0 → 1 ≤ length s / 32 → leb (length s / 32) 1048576 ≡ leavesFit s
-unfolding leavesFit
-leaves-rest s e h = rw (eq-eqb (length s % 32) 0 e) (position-rest (length s / 32) h)
+unfolding leavesFit isPosition
+leaves-rest s e h = rw (eq-eqb (length s % 32) 0 e) (within-rest 1 1048576 (length s / 32) h)
 
 leaves-told : (s : List ℕ) → leavesFit s ≡ true → length s / 32 ≤ 1048576
 unfolding leavesFit

@@ -1,15 +1,15 @@
 // The server's and the user's calls, over the bytes that are lent.
 ghost use mathlib.Core.Path.{_≡_};
 ghost use Rattle.tree.specs.Setup.{settings};
-ghost use Rattle.user_write.specs.Writing.{keyOf};
-ghost use Rattle.lent_bytes.specs.Server.{serverLeft};
-ghost use Rattle.lent_bytes.specs.User.{updateBegun, writeBegun, readBegun, userLent, UserLeaves, userAnswered, settledAnswer};
-use lent_bytes::serving;
-use lent_bytes::serving::Served;
-use lent_bytes::taking;
-use lent_bytes::using;
-use lent_bytes::using::Asked;
-use lent_bytes::using::SettledAnswer;
+ghost use Rattle.user.specs.Outcome.{keyOf};
+ghost use Rattle.c_layout.specs.Server.{serverAnswered, ServerYields};
+ghost use Rattle.c_layout.specs.User.{updateBegun, writeBegun, readBegun, Begins, WriteBegins, userLent, UserYields, userAnswered, settledAnswer};
+use c_layout::serving;
+use c_layout::serving::Served;
+use c_layout::taking;
+use c_layout::using;
+use c_layout::using::Asked;
+use c_layout::using::SettledAnswer;
 
 // One call of the server: takes in a request of any bytes. After a refusal the head and the store are as they were.
 #[no_mangle]
@@ -24,10 +24,9 @@ pub extern "C" fn kozbrax_server(
     request: &[u8],
     answer: &mut [u8],
 ) -> Served
-    ensures { λ r. ⌜ (r ≡ serverLeft servers own (now (log .entry)) (now (users .entry)) (now (head .entry)) (now (store .entry)) used (now (request .entry)) (now (answer .entry)) .result)
-        × ((now (head .exit) ≡ serverLeft servers own (now (log .entry)) (now (users .entry)) (now (head .entry)) (now (store .entry)) used (now (request .entry)) (now (answer .entry)) .head)
-        × ((now (store .exit) ≡ serverLeft servers own (now (log .entry)) (now (users .entry)) (now (head .entry)) (now (store .entry)) used (now (request .entry)) (now (answer .entry)) .store)
-        × (now (answer .exit) ≡ serverLeft servers own (now (log .entry)) (now (users .entry)) (now (head .entry)) (now (store .entry)) used (now (request .entry)) (now (answer .entry)) .answer))) ⌝ }
+    ensures { λ r. ⌜ ServerYields (serverAnswered servers own (now (log .entry)) (now (users .entry)) (now (head .entry))
+        (now (store .entry)) used (now (request .entry)) (now (answer .entry)))
+        r (now (head .exit)) (now (store .exit)) (now (answer .exit)) ⌝ }
 {
     serving::serve(servers, own, log, users, head, store, used, request, answer)
 }
@@ -43,9 +42,9 @@ pub extern "C" fn kozbrax_update_start(
     call: &mut [u8; 82],
     request: &mut [u8],
 ) -> Asked
-    ensures { λ r. ⌜ (r ≡ updateBegun (settings servers own (now (log .entry)) (now (users .entry))) (now (kept .entry)) (now (call .entry)) (now (request .entry)) .asked)
-        × ((now (call .exit) ≡ updateBegun (settings servers own (now (log .entry)) (now (users .entry))) (now (kept .entry)) (now (call .entry)) (now (request .entry)) .call)
-        × (now (request .exit) ≡ updateBegun (settings servers own (now (log .entry)) (now (users .entry))) (now (kept .entry)) (now (call .entry)) (now (request .entry)) .request)) ⌝ }
+    ensures { λ r. ⌜ Begins (updateBegun (settings servers own (now (log .entry)) (now (users .entry)))
+        (now (kept .entry)) (now (call .entry)) (now (request .entry)))
+        r (now (call .exit)) (now (request .exit)) ⌝ }
 {
     using::update_start(servers, own, log, users, kept, call, request)
 }
@@ -66,10 +65,10 @@ pub extern "C" fn kozbrax_write_start(
     held: &mut [u8; 1026],
     request: &mut [u8],
 ) -> Asked
-    ensures { λ r. ⌜ (r ≡ writeBegun (settings servers own (now (log .entry)) (now (users .entry))) (now (tree .entry)) (now (entry .entry)) (now (randomizer .entry)) (now (kept .entry)) (now (path .entry)) (now (call .entry)) (now (held .entry)) (now (request .entry)) .asked)
-        × ((now (call .exit) ≡ writeBegun (settings servers own (now (log .entry)) (now (users .entry))) (now (tree .entry)) (now (entry .entry)) (now (randomizer .entry)) (now (kept .entry)) (now (path .entry)) (now (call .entry)) (now (held .entry)) (now (request .entry)) .call)
-        × ((now (held .exit) ≡ writeBegun (settings servers own (now (log .entry)) (now (users .entry))) (now (tree .entry)) (now (entry .entry)) (now (randomizer .entry)) (now (kept .entry)) (now (path .entry)) (now (call .entry)) (now (held .entry)) (now (request .entry)) .held)
-        × (now (request .exit) ≡ writeBegun (settings servers own (now (log .entry)) (now (users .entry))) (now (tree .entry)) (now (entry .entry)) (now (randomizer .entry)) (now (kept .entry)) (now (path .entry)) (now (call .entry)) (now (held .entry)) (now (request .entry)) .request))) ⌝ }
+    ensures { λ r. ⌜ WriteBegins (writeBegun (settings servers own (now (log .entry)) (now (users .entry)))
+        (now (tree .entry)) (now (entry .entry)) (now (randomizer .entry)) (now (kept .entry)) (now (path .entry))
+        (now (call .entry)) (now (held .entry)) (now (request .entry)))
+        r (now (call .exit)) (now (held .exit)) (now (request .exit)) ⌝ }
 {
     using::write_start(
         servers,
@@ -100,9 +99,9 @@ pub extern "C" fn kozbrax_read_start(
     request: &mut [u8],
     entry: &[u8],
 ) -> Asked
-    ensures { λ r. ⌜ (r ≡ readBegun (settings servers own (now (log .entry)) (now (users .entry))) position (now (kept .entry)) (now (call .entry)) (now (request .entry)) (now (entry .entry)) .asked)
-        × ((now (call .exit) ≡ readBegun (settings servers own (now (log .entry)) (now (users .entry))) position (now (kept .entry)) (now (call .entry)) (now (request .entry)) (now (entry .entry)) .call)
-        × (now (request .exit) ≡ readBegun (settings servers own (now (log .entry)) (now (users .entry))) position (now (kept .entry)) (now (call .entry)) (now (request .entry)) (now (entry .entry)) .request)) ⌝ }
+    ensures { λ r. ⌜ Begins (readBegun (settings servers own (now (log .entry)) (now (users .entry)))
+        position (now (kept .entry)) (now (call .entry)) (now (request .entry)) (now (entry .entry)))
+        r (now (call .exit)) (now (request .exit)) ⌝ }
 {
     using::read_start(
         servers,
@@ -137,8 +136,12 @@ pub extern "C" fn kozbrax_take(
     request: &mut [u8],
     entry: &mut [u8],
 ) -> Asked
-    ensures { λ r. ⌜ UserLeaves (userAnswered (settings servers own (now (log .entry)) (now (users .entry))) (userLent (now (kept .entry)) (now (path .entry)) (now (signature .entry)) (now (call .entry)) (now (hashes .entry)) (now (held .entry)) (now (request .entry)) (now (entry .entry))) (keyOf (now (id .entry)) (now (seed .entry)) (now (tree .entry))) (now (answer .entry)))
-        r (now (kept .exit)) (now (path .exit)) (now (signature .exit)) (now (call .exit)) (now (hashes .exit)) (now (held .exit)) (now (request .exit)) (now (entry .exit)) ⌝ }
+    ensures { λ r. ⌜ UserYields (userAnswered (settings servers own (now (log .entry)) (now (users .entry)))
+        (userLent (now (kept .entry)) (now (path .entry)) (now (signature .entry)) (now (call .entry)) (now (hashes .entry))
+        (now (held .entry)) (now (request .entry)) (now (entry .entry)))
+        (keyOf (now (id .entry)) (now (seed .entry)) (now (tree .entry))) (now (answer .entry)))
+        r (userLent (now (kept .exit)) (now (path .exit)) (now (signature .exit)) (now (call .exit)) (now (hashes .exit))
+        (now (held .exit)) (now (request .exit)) (now (entry .exit))) ⌝ }
 {
     taking::take(
         servers,

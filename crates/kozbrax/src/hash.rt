@@ -22,7 +22,8 @@ fn give(hash: [u8; 32], out: &mut [u8]) -> u32
 // The SHA-256 of the message goes to the first 32 bytes of out: 0, or 21 where out is shorter.
 #[no_mangle]
 pub extern "C" fn kozbrax_sha256(message: &[u8], out: &mut [u8]) -> u32
-    ensures { λ r. ⌜ (r ≡ hashCode (now (out .entry))) × (now (out .exit) ≡ written (now (out .entry)) 0 (sha256 (now (message .entry)))) ⌝ }
+    ensures { λ r. ⌜ (r ≡ hashCode (now (out .entry)))
+        × (now (out .exit) ≡ written (now (out .entry)) 0 (sha256 (now (message .entry)))) ⌝ }
 {
     give(sha256::hash(message), out)
 }
@@ -30,7 +31,8 @@ pub extern "C" fn kozbrax_sha256(message: &[u8], out: &mut [u8]) -> u32
 // The leaf of an entry goes to the first 32 bytes of out: 0, or 21 where out is shorter.
 #[no_mangle]
 pub extern "C" fn kozbrax_leaf(author: u16, entry: &[u8], out: &mut [u8]) -> u32
-    ensures { λ r. ⌜ (r ≡ hashCode (now (out .entry))) × (now (out .exit) ≡ written (now (out .entry)) 0 (value (leaf (entryText author (now (entry .entry)))))) ⌝ }
+    ensures { λ r. ⌜ (r ≡ hashCode (now (out .entry)))
+        × (now (out .exit) ≡ written (now (out .entry)) 0 (value (leaf (entryText author (now (entry .entry)))))) ⌝ }
 {
     give(digest::leaf(author, entry), out)
 }
@@ -53,7 +55,8 @@ fn leaves_fit(leaves: &[u8]) -> bool
 // 1 to 1,048,576.
 #[no_mangle]
 pub extern "C" fn kozbrax_digest(leaves: &[u8], out: &mut [u8]) -> u32
-    ensures { λ r. ⌜ (r ≡ digestCode (now (leaves .entry)) (now (out .entry))) × (now (out .exit) ≡ digestLeft (now (leaves .entry)) (now (out .entry))) ⌝ }
+    ensures { λ r. ⌜ (r ≡ digestCode (now (leaves .entry)) (now (out .entry)))
+        × (now (out .exit) ≡ digestLeft (now (leaves .entry)) (now (out .entry))) ⌝ }
 {
     if out.len() < 32 {
         return 21;

@@ -1,26 +1,32 @@
 // Labels, owners and waits of the log's nodes; 4294967295 answers what is out of range.
 ghost use mathlib.Core.Path.{_≡_};
+ghost use mathlib.Core.Bool.{_&&_};
+ghost use lib.Dec.{leb};
 ghost use Rattle.kozbrax.specs.Tree.{isPosition, isCount, firstLabelGiven, ownerGiven, waitGiven};
 use tree::label;
+
+// Whether n is in least..most.
+fn is_within(n: u32, least: u32, most: u32) -> bool
+    ensures { λ r. ⌜ r ≡ leb least n && leb n most ⌝ }
+{
+    if n < least {
+        return false;
+    }
+    n <= most
+}
 
 // Whether p is a position of a log.
 fn is_position(p: u32) -> bool
     ensures { λ r. ⌜ r ≡ isPosition p ⌝ }
 {
-    if p < 1 {
-        return false;
-    }
-    p <= 1048576
+    is_within(p, 1, 1048576)
 }
 
 // Whether n servers can hold a log.
 fn is_count(n: u32) -> bool
     ensures { λ r. ⌜ r ≡ isCount n ⌝ }
 {
-    if n < 2 {
-        return false;
-    }
-    n <= 16
+    is_within(n, 2, 16)
 }
 
 // The first label of p's path.

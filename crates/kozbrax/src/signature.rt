@@ -10,7 +10,8 @@ use lms::Checked;
 #[no_mangle]
 pub extern "C" fn kozbrax_lms_generate(seed: &[u8; 32], id: &[u8; 16], tree: &mut [u8]) -> u32
     ensures { λ r. ⌜ (r ≡ generateCode LMS_SHA256_M32_H10 (now (tree .entry)))
-        × (now (tree .exit) ≡ generated LMOTS_SHA256_N32_W4 LMS_SHA256_M32_H10 (now (id .entry)) (now (seed .entry)) (now (tree .entry))) ⌝ }
+        × (now (tree .exit) ≡ generated LMOTS_SHA256_N32_W4 LMS_SHA256_M32_H10
+        (now (id .entry)) (now (seed .entry)) (now (tree .entry))) ⌝ }
 {
     lms::generate(*seed, *id, tree)
 }
@@ -19,7 +20,8 @@ pub extern "C" fn kozbrax_lms_generate(seed: &[u8; 32], id: &[u8; 16], tree: &mu
 #[no_mangle]
 pub extern "C" fn kozbrax_lms_public_key(id: &[u8; 16], tree: &[u8], key: &mut [u8]) -> u32
     ensures { λ r. ⌜ (r ≡ publicKeyCode LMS_SHA256_M32_H10 (now (tree .entry)) (now (key .entry)))
-        × (now (key .exit) ≡ publicKeyWritten LMOTS_SHA256_N32_W4 LMS_SHA256_M32_H10 (now (id .entry)) (now (tree .entry)) (now (key .entry))) ⌝ }
+        × (now (key .exit) ≡ publicKeyWritten LMOTS_SHA256_N32_W4 LMS_SHA256_M32_H10
+        (now (id .entry)) (now (tree .entry)) (now (key .entry))) ⌝ }
 {
     lms::public_key(*id, tree, key)
 }
@@ -36,7 +38,9 @@ pub extern "C" fn kozbrax_lms_sign(
     signature: &mut [u8],
 ) -> u32
     ensures { λ r. ⌜ (r ≡ signCode LMOTS_SHA256_N32_W4 LMS_SHA256_M32_H10 number (now (tree .entry)) (now (signature .entry)))
-        × (now (signature .exit) ≡ signed LMOTS_SHA256_N32_W4 LMS_SHA256_M32_H10 (now (id .entry)) (now (seed .entry)) number (now (randomizer .entry)) (now (text .entry)) (now (tree .entry)) (now (signature .entry))) ⌝ }
+        × (now (signature .exit) ≡ signed LMOTS_SHA256_N32_W4 LMS_SHA256_M32_H10
+        (now (id .entry)) (now (seed .entry)) number (now (randomizer .entry)) (now (text .entry))
+        (now (tree .entry)) (now (signature .entry))) ⌝ }
 {
     lms::sign(*seed, *id, number, *randomizer, text, tree, signature)
 }
@@ -44,7 +48,8 @@ pub extern "C" fn kozbrax_lms_sign(
 // The number that a valid signature was made with, or 4294967295.
 #[no_mangle]
 pub extern "C" fn kozbrax_lms_check(key: &[u8], text: &[u8], signature: &[u8]) -> u32
-    ensures { λ r. ⌜ r ≡ numberGiven (checkOf LMOTS_SHA256_N32_W4 LMS_SHA256_M32_H10 (now (key .entry)) (now (text .entry)) (now (signature .entry))) ⌝ }
+    ensures { λ r. ⌜ r ≡ numberGiven (checkOf LMOTS_SHA256_N32_W4 LMS_SHA256_M32_H10
+        (now (key .entry)) (now (text .entry)) (now (signature .entry))) ⌝ }
 {
     let answer = lms::check(key, text, signature);
     match answer {

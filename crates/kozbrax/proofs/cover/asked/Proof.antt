@@ -20,7 +20,10 @@ mul-result : tie.Need-mul-result
 mul-result c = omega (arith, c .cover-count .ensures, cover-few _ _ (c .before .before .before .if1 .left))
 
 returns-4 : tie.Need-returns-4
-returns-4 c = asked-rest _ _ _ _ (c .before .before .before .if1 .left) (c .before .before .if2 .left) (c .before .if3 .left) (c .cover-count .ensures)
+returns-4 c =
+    let if1-left = c .before .before .before .if1 .left in
+    let if2-left = c .before .before .if2 .left in
+    asked-rest _ _ _ _ if1-left if2-left (c .before .if3 .left) (c .cover-count .ensures)
 
 pub asked-spec : {M : Type 1} → statement M
 asked-spec =

@@ -26,7 +26,11 @@ same-length-2 : tie.Need-same-length-2
 same-length-2 c = search needs
 
 returns-2 : tie.Need-returns-2
-returns-2 c = cover-given _ _ _ _ _ (passed (c .before .before .before .before .before .before .asked .ensures) (c .before .before .before .before .before .if1 .left)) (c .cover-count .ensures) (c .before .before .before .write-nodes .ensures)
+returns-2 c =
+    let asked = c .before .before .before .before .before .before .asked .ensures in
+    let if1-left = c .before .before .before .before .before .if1 .left in
+    let write-nodes = c .before .before .before .write-nodes .ensures in
+    cover-given _ _ _ _ _ (passed asked if1-left) (c .cover-count .ensures) write-nodes
 
 pub kozbrax-cover-spec : {M : Type 1} → statement M
 kozbrax-cover-spec =

@@ -12,7 +12,8 @@ use Rattle.kozbrax.proofs.cover.write_nodes.Statement.{statement}
 use Rattle.kozbrax.proofs.cover.write_nodes.Tie as tie
 
 abbrev Inv-loop : tie.InvT-loop
-Inv-loop v w nodes₀ n k₀ nodes k = (k ≤ length (cover v w)) × ((length nodes ≡ length nodes₀) × (nodes ≡ written nodes₀ 0 (nodesBytes (take k (cover v w)))))
+Inv-loop v w nodes₀ n k₀ nodes k =
+    (k ≤ length (cover v w)) × ((length nodes ≡ length nodes₀) × (nodes ≡ written nodes₀ 0 (nodesBytes (take k (cover v w)))))
 
 abbrev μ-loop : tie.MeasureT-loop
 μ-loop v w nodes₀ n k₀ nodes k = length (cover v w) - k
@@ -51,13 +52,32 @@ loop-less : tie.Need-loop-less Inv-loop μ-loop
 loop-less c = search needs
 
 loop-again : tie.Need-loop-again Inv-loop μ-loop
-loop-again c = let a = c .before .before .before .before .before .before .before .before .before .loop in let h : a .k < c .before .before .before .before .before .before .before .before .before .before .before .cover-count .result = c .before .before .before .before .before .before .before .before .loop-test .taken in (omega (arith, c .before .before .before .before .before .before .before .before .before .before .before .cover-count .ensures), (search needs, c .before .before .put2 .ensures ∙ nodes-more _ (a .nodes) _ (a .k) _ _ _ _ (c .before .before .before .before .before .before .before .before .before .before .before .cover-count .ensures) h (c .before .before .before .before .before .before .before .before .before .before .if1 .left) (a .inv .1 .1) (c .before .before .before .before .before .before .before .cover-node .ensures) (c .before .before .before .before .before .before .be4 .ensures) (sym (be-one _ (search needs)))))
+loop-again c =
+    let cover-count = c .before .before .before .before .before .before .before .before .before .before .before .cover-count in
+    let if1-left = c .before .before .before .before .before .before .before .before .before .before .if1 .left in
+    let loop-test-taken = c .before .before .before .before .before .before .before .before .loop-test .taken in
+    let cover-node = c .before .before .before .before .before .before .before .cover-node .ensures in
+    let be4 = c .before .before .before .before .before .before .be4 .ensures in
+    let put2 = c .before .before .put2 .ensures in
+    let a = c .before .before .before .before .before .before .before .before .before .loop in
+    let h : a .k < cover-count .result = loop-test-taken in (
+      omega (arith, cover-count .ensures),
+      (
+        search needs,
+        put2
+            ∙ nodes-more _ (a .nodes) _ (a .k) _ _ _ _ (cover-count .ensures) h if1-left (a .inv .1 .1) cover-node be4
+            (sym (be-one _ (search needs))),
+      ),
+    )
 
 same-length : tie.Need-same-length Inv-loop μ-loop
 same-length c = search needs
 
 returns-2 : tie.Need-returns-2 Inv-loop μ-loop
-returns-2 c = nodes-all _ (c .before .loop .nodes) _ (c .before .loop .k) _ (c .before .before .before .cover-count .ensures) (omega (arith, c .before .before .before .cover-count .ensures, c .loop-test .left)) (c .before .loop .inv .1 .1)
+returns-2 c =
+    let cover-count = c .before .before .before .cover-count .ensures in
+    nodes-all _ (c .before .loop .nodes) _ (c .before .loop .k) _ cover-count (omega (arith, cover-count, c .loop-test .left))
+    (c .before .loop .inv .1 .1)
 
 pub write-nodes-spec : {M : Type 1} → statement M
 write-nodes-spec =

@@ -25,7 +25,13 @@ same-length : tie.Need-same-length
 same-length c = search needs
 
 returns-3 : tie.Need-returns-3
-returns-3 c = digest-given _ _ _ _ _ (c .before .before .before .before .before .before .before .if1 .left) (passed (c .before .before .before .before .before .before .leaves-fit .ensures) (c .before .before .before .before .before .if2 .left)) (c .before .before .before .before .block-digest .ensures) (c .before .before .give .ensures .0) (c .before .before .give .ensures .1)
+returns-3 c =
+    let if1-left = c .before .before .before .before .before .before .before .if1 .left in
+    let leaves-fit = c .before .before .before .before .before .before .leaves-fit .ensures in
+    let if2-left = c .before .before .before .before .before .if2 .left in
+    let block-digest = c .before .before .before .before .block-digest .ensures in
+    let give = c .before .before .give in
+    digest-given _ _ _ _ _ if1-left (passed leaves-fit if2-left) block-digest (give .ensures .0) (give .ensures .1)
 
 pub kozbrax-digest-spec : {M : Type 1} → statement M
 kozbrax-digest-spec =

@@ -12,7 +12,10 @@ same-length : tie.Need-same-length
 same-length c = search needs
 
 returns : tie.Need-returns
-returns c = (c .before .before .give .ensures .0, rw (c .before .before .before .before .leaf .ensures) at (c .before .before .give .ensures .1))
+returns c =
+    let leaf = c .before .before .before .before .leaf .ensures in
+    let give = c .before .before .give in
+    (give .ensures .0, rw leaf at (give .ensures .1))
 
 pub kozbrax-leaf-spec : {M : Type 1} → statement M
 kozbrax-leaf-spec = tie.close (tie.spec leaf-requires give-requires same-length returns)

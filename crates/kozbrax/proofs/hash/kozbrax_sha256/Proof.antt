@@ -12,7 +12,10 @@ same-length : tie.Need-same-length
 same-length c = search needs
 
 returns : tie.Need-returns
-returns c = (c .before .before .give .ensures .0, rw (c .before .before .before .before .hash .ensures) at (c .before .before .give .ensures .1))
+returns c =
+    let the-hash = c .before .before .before .before .hash .ensures in
+    let give = c .before .before .give in
+    (give .ensures .0, rw the-hash at (give .ensures .1))
 
 pub kozbrax-sha256-spec : {M : Type 1} → statement M
 kozbrax-sha256-spec = tie.close (tie.spec hash-requires give-requires same-length returns)

@@ -1,12 +1,14 @@
-use Rattle.kozbrax.proofs.Ranges.{count-low, count-rest}
+use Rattle.kozbrax.specs.Tree.{isCount}
+use borrow.Author.Needs.{needs}
 use Rattle.kozbrax.proofs.label.is_count.Statement.{statement}
 use Rattle.kozbrax.proofs.label.is_count.Tie as tie
 
-returns : tie.Need-returns
-returns c = count-low _ (c .if1 .taken)
+is-within-requires : tie.Need-is-within-requires
+is-within-requires c κs = search needs
 
-returns-2 : tie.Need-returns-2
-returns-2 c = count-rest _ (c .if1 .left)
+returns : tie.Need-returns
+unfolding isCount
+returns c = c .is-within .ensures
 
 pub is-count-spec : {M : Type 1} → statement M
-is-count-spec = tie.close (tie.spec returns returns-2)
+is-count-spec = tie.close (tie.spec is-within-requires returns)

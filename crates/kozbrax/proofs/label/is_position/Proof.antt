@@ -1,12 +1,14 @@
-use Rattle.kozbrax.proofs.Ranges.{position-low, position-rest}
+use Rattle.kozbrax.specs.Tree.{isPosition}
+use borrow.Author.Needs.{needs}
 use Rattle.kozbrax.proofs.label.is_position.Statement.{statement}
 use Rattle.kozbrax.proofs.label.is_position.Tie as tie
 
-returns : tie.Need-returns
-returns c = position-low _ (c .if1 .taken)
+is-within-requires : tie.Need-is-within-requires
+is-within-requires c κs = search needs
 
-returns-2 : tie.Need-returns-2
-returns-2 c = position-rest _ (c .if1 .left)
+returns : tie.Need-returns
+unfolding isPosition
+returns c = c .is-within .ensures
 
 pub is-position-spec : {M : Type 1} → statement M
-is-position-spec = tie.close (tie.spec returns returns-2)
+is-position-spec = tie.close (tie.spec is-within-requires returns)

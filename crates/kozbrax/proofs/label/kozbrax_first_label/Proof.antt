@@ -14,7 +14,10 @@ first-label-requires : tie.Need-first-label-requires
 first-label-requires c κs = search needs
 
 cast-result : tie.Need-cast-result
-cast-result c = let t = position-told _ (passed (c .before .before .is-position .ensures) (c .before .if1 .left)) in omega (arith, label-small _ (t .0) (t .1), c .first-label .ensures)
+cast-result c =
+    let is-position = c .before .before .is-position .ensures in
+    let t = position-told _ (passed is-position (c .before .if1 .left)) in
+    omega (arith, label-small _ (t .0) (t .1), c .first-label .ensures)
 
 returns-2 : tie.Need-returns-2
 returns-2 c = first-label-given _ _ (passed (c .before .before .is-position .ensures) (c .before .if1 .left)) (c .first-label .ensures)

@@ -14,7 +14,10 @@ is-position-requires : tie.Need-is-position-requires
 is-position-requires c κs = search needs
 
 returns-2 : tie.Need-returns-2
-returns-2 c = wait-no-position _ _ (passed (c .before .before .before .is-count .ensures) (c .before .before .if1 .left)) (refused (c .before .is-position .ensures) (c .if2 .taken))
+returns-2 c =
+    let is-count = c .before .before .before .is-count .ensures in
+    let if1-left = c .before .before .if1 .left in
+    wait-no-position _ _ (passed is-count if1-left) (refused (c .before .is-position .ensures) (c .if2 .taken))
 
 cast-wait : tie.Need-cast-wait
 cast-wait c = omega (arith, count-told _ (passed (c .before .before .before .is-count .ensures) (c .before .before .if1 .left)))
@@ -26,7 +29,11 @@ cast-result : tie.Need-cast-result
 cast-result c = search needs
 
 returns-3 : tie.Need-returns-3
-returns-3 c = wait-given _ _ _ (passed (c .before .before .before .before .is-count .ensures) (c .before .before .before .if1 .left)) (passed (c .before .before .is-position .ensures) (c .before .if2 .left)) (c .wait .ensures)
+returns-3 c =
+    let is-count = c .before .before .before .before .is-count .ensures in
+    let if1-left = c .before .before .before .if1 .left in
+    let is-position = c .before .before .is-position .ensures in
+    wait-given _ _ _ (passed is-count if1-left) (passed is-position (c .before .if2 .left)) (c .wait .ensures)
 
 pub kozbrax-wait-spec : {M : Type 1} → statement M
 kozbrax-wait-spec =

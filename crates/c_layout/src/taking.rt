@@ -1,0 +1,196 @@
+// An answer taken in by the user's call that 82 lent bytes stand for.
+ghost use mathlib.Core.List.{List};
+ghost use Prim.Native.Nat.{ℕ};
+ghost use Rattle.tree.specs.Setup.{settings, settingsOf};
+ghost use Rattle.user.specs.Outcome.{Key, keyOf};
+ghost use Rattle.user_calls.specs.Calls.{idle, updating, writing, reading};
+ghost use Rattle.c_layout.specs.User.{updateOf, writeOf, readOf, userLent, UserYields, answeredBy, userAnswered};
+use super::numbers;
+use super::user_state;
+use super::using;
+use super::using::Asked;
+use sha256::bytes;
+use tree::bools;
+use tree::setup::Config;
+use user::ask;
+
+// An answer taken in by an Update.
+fn update_answer(
+    config: Config,
+    users: &[u8],
+    answer: &[u8],
+    kept: &mut [u8; 42],
+    call: &mut [u8; 82],
+    hashes: &mut [u8; 1248],
+    request: &mut [u8],
+) -> Asked
+    ensures { λ r. ⌜ ((path signature held entry : List ℕ) (key : Key)
+        → UserYields (answeredBy (settingsOf config (now (users .entry))) (userLent (now (kept .entry)) path signature (now (call .entry))
+        (now (hashes .entry)) held (now (request .entry)) entry) key (updating (updateOf (now (call .entry)))) (now (answer .entry)))
+        r (userLent (now (kept .exit)) path signature (now (call .exit)) (now (hashes .exit)) held (now (request .exit)) entry)) ⌝ }
+{
+    let u = user_state::update_of(*call);
+    let k = user_state::kept_of(*kept);
+    let left = u.take(config, users, k, answer, hashes, request);
+    let step = left.step;
+    user_state::lay_kept(step.code, left.kept, kept);
+    user_state::lay_update(step.code, left.call, call);
+    using::plain_result(step)
+}
+
+// An answer taken in by a Write.
+fn write_answer(
+    config: Config,
+    users: &[u8],
+    id: [u8; 16],
+    seed: [u8; 32],
+    tree: &[u8],
+    answer: &[u8],
+    kept: &mut [u8; 42],
+    path: &mut [u8; 672],
+    signature: &mut [u8; 2508],
+    call: &mut [u8; 82],
+    hashes: &mut [u8; 1248],
+    held: &[u8; 1026],
+    request: &mut [u8],
+) -> Asked
+    ensures { λ r. ⌜ ((entry : List ℕ)
+        → UserYields (answeredBy (settingsOf config (now (users .entry))) (userLent (now (kept .entry)) (now (path .entry))
+        (now (signature .entry)) (now (call .entry)) (now (hashes .entry)) (now (held .entry)) (now (request .entry)) entry)
+        (keyOf id seed (now (tree .entry))) (writing (writeOf (now (call .entry)))) (now (answer .entry)))
+        r (userLent (now (kept .exit)) (now (path .exit)) (now (signature .exit)) (now (call .exit)) (now (hashes .exit))
+        (now (held .entry)) (now (request .exit)) entry)) ⌝ }
+{
+    let w = user_state::write_of(*call);
+    let k = user_state::kept_of(*kept);
+    let after = w.take(
+        config,
+        users,
+        k,
+        id,
+        seed,
+        tree,
+        answer,
+        path,
+        signature,
+        hashes,
+        held,
+        request,
+    );
+    let step = after.step;
+    user_state::lay_kept(step.code, after.kept, kept);
+    user_state::lay_write(step.code, after.call, call);
+    using::plain_result(step)
+}
+
+// An answer taken in by a Read.
+fn read_answer(
+    config: Config,
+    users: &[u8],
+    answer: &[u8],
+    kept: &[u8; 42],
+    call: &mut [u8; 82],
+    hashes: &mut [u8; 1248],
+    held: &mut [u8; 1026],
+    request: &mut [u8],
+    entry: &mut [u8],
+) -> Asked
+    ensures { λ r. ⌜ ((path signature : List ℕ) (key : Key)
+        → UserYields (answeredBy (settingsOf config (now (users .entry))) (userLent (now (kept .entry)) path signature (now (call .entry))
+        (now (hashes .entry)) (now (held .entry)) (now (request .entry)) (now (entry .entry))) key (reading (readOf (now (call .entry))))
+        (now (answer .entry)))
+        r (userLent (now (kept .entry)) path signature (now (call .exit)) (now (hashes .exit)) (now (held .exit)) (now (request .exit))
+        (now (entry .exit)))) ⌝ }
+{
+    let c = user_state::read_of(*call);
+    let k = user_state::kept_of(*kept);
+    let left = c.take(config, users, k, answer, hashes, held, request, entry);
+    let step = left.step;
+    user_state::lay_read(step.code, left.call, call);
+    using::result(step, left.found)
+}
+
+// An answer to no call's request.
+fn stray_answer(
+    config: Config,
+    users: &[u8],
+    answer: &[u8],
+    kept: &[u8; 42],
+    request: &[u8],
+) -> Asked
+    ensures { λ r. ⌜ ((path signature call hashes held entry : List ℕ) (key : Key)
+        → UserYields (answeredBy (settingsOf config (now (users .entry))) (userLent (now (kept .entry)) path signature call hashes held
+        (now (request .entry)) entry) key idle (now (answer .entry)))
+        r (userLent (now (kept .entry)) path signature call hashes held (now (request .entry)) entry)) ⌝ }
+{
+    let k = user_state::kept_of(*kept);
+    let room = bools::at_most(2566, request.len());
+    let setup = ask::setup_code(config, users, k, room);
+    let code = bools::checked(bools::equal(setup as usize, 0), setup, 10);
+    using::plain_result(ask::refused(code, answer))
+}
+
+// Takes in an answer: hands out the call's next request, or ends the call.
+pub fn take(
+    servers: u32,
+    own: u32,
+    log: &[u8; 16],
+    users: &[u8],
+    id: &[u8; 16],
+    seed: &[u8; 32],
+    tree: &[u8],
+    answer: &[u8],
+    kept: &mut [u8; 42],
+    path: &mut [u8; 672],
+    signature: &mut [u8; 2508],
+    call: &mut [u8; 82],
+    hashes: &mut [u8; 1248],
+    held: &mut [u8; 1026],
+    request: &mut [u8],
+    entry: &mut [u8],
+) -> Asked
+    ensures { λ r. ⌜ UserYields (userAnswered (settings servers own (now (log .entry)) (now (users .entry)))
+        (userLent (now (kept .entry)) (now (path .entry)) (now (signature .entry)) (now (call .entry)) (now (hashes .entry))
+        (now (held .entry)) (now (request .entry)) (now (entry .entry)))
+        (keyOf (now (id .entry)) (now (seed .entry)) (now (tree .entry))) (now (answer .entry)))
+        r (userLent (now (kept .exit)) (now (path .exit)) (now (signature .exit)) (now (call .exit)) (now (hashes .exit))
+        (now (held .exit)) (now (request .exit)) (now (entry .exit))) ⌝ }
+{
+    let config = numbers::config(servers, own, log);
+    let kind = bytes::byte_at(call, 0) as usize;
+    let marked = bools::at_most(bytes::byte_at(call, 46) as usize, 1);
+    if kind == 1 {
+        return update_answer(config, users, answer, kept, call, hashes, request);
+    }
+    if bools::both(bools::equal(kind, 2), marked) {
+        return write_answer(
+            config,
+            users,
+            *id,
+            *seed,
+            tree,
+            answer,
+            kept,
+            path,
+            signature,
+            call,
+            hashes,
+            held,
+            request,
+        );
+    }
+    if kind == 3 {
+        return read_answer(
+            config,
+            users,
+            answer,
+            kept,
+            call,
+            hashes,
+            held,
+            request,
+            entry,
+        );
+    }
+    stray_answer(config, users, answer, kept, request)
+}

@@ -1,8 +1,0 @@
--- Laws of the bytes, and of the calls over them.
-pub mod Heads
-pub mod States
-pub mod Inverses
-pub mod Narrowed
-pub mod UserCalls
-pub mod UserAnswers
-pub mod Refusals

@@ -1,3 +1,0 @@
--- What the calls over lent bytes answer and leave.
-pub mod Server
-pub mod User
