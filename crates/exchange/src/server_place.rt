@@ -1,7 +1,7 @@
 // A server's place: the head from its first byte on, position, level, a byte that is 0, author and digest; the store's used length; then
 // the store.
-use lent_bytes::serving;
-use lent_bytes::serving::Served;
+use c_layout::serving;
+use c_layout::serving::Served;
 use programs::key;
 use sha256::bytes;
 
@@ -15,7 +15,7 @@ pub const USED: usize = 40;
 
 pub const STORE: usize = 48;
 
-// The head as `lent_bytes` has it.
+// The head as `c_layout` has it.
 fn head_of(place: &[u8]) -> [u8; 39] {
     let mut head = [0u8; 39];
     let rest = bytes::front(bytes::from(place, AUTHOR), 34);

@@ -1,9 +1,12 @@
-// A user's place of 9,194 bytes: what is kept in the first 42 and the call that goes on in the next 82, as `lent_bytes` has them; the last
+// A user's place of 9,194 bytes: what is kept in the first 42 and the call that goes on in the next 82, as `c_layout` has them; the last
 // step; then the buffers that are lent.
-use lent_bytes::taking;
-use lent_bytes::using;
-use lent_bytes::using::Asked;
-use lent_bytes::using::SettledAnswer;
+ghost use mathlib.Core.Path.{_≡_};
+ghost use Rattle.exchange.specs.UserPlace.{loaded, requestOf, entryOf, hasEnded, forgotten};
+ghost use Rattle.lines.specs.Memory.{zeros};
+use c_layout::taking;
+use c_layout::using;
+use c_layout::using::Asked;
+use c_layout::using::SettledAnswer;
 use programs::key;
 use programs::line;
 use sha256::bytes;
@@ -63,12 +66,16 @@ pub struct Settings {
 }
 
 // Fills d with the bytes of a place from `at` on.
-pub fn load(place: &[u8], at: usize, d: &mut [u8]) {
+pub fn load(place: &[u8], at: usize, d: &mut [u8])
+    ensures { λ _. ⌜ now (d .exit) ≡ loaded (now (place .entry)) at (now (d .entry)) ⌝ }
+{
     bytes::put(d, 0, bytes::front(bytes::from(place, at), d.len()));
 }
 
 // The request that was handed out last.
-pub fn request_of(place: &[u8]) -> &[u8] {
+pub fn request_of(place: &[u8]) -> &[u8]
+    ensures { λ r. ⌜ now r ≡ requestOf (now (place .entry)) ⌝ }
+{
     bytes::front(
         bytes::from(place, REQUEST),
         bytes::u16_at(place, SERVER + 1) as usize,
@@ -76,7 +83,9 @@ pub fn request_of(place: &[u8]) -> &[u8] {
 }
 
 // The entry that a Read found.
-pub fn entry_of(place: &[u8]) -> &[u8] {
+pub fn entry_of(place: &[u8]) -> &[u8]
+    ensures { λ r. ⌜ now r ≡ entryOf (now (place .entry)) ⌝ }
+{
     bytes::front(
         bytes::from(place, ENTRY),
         bytes::u16_at(place, LENGTH) as usize,
@@ -84,14 +93,32 @@ pub fn entry_of(place: &[u8]) -> &[u8] {
 }
 
 // Whether the call has ended.
-pub fn ended(place: &[u8]) -> bool {
+pub fn ended(place: &[u8]) -> bool
+    ensures { λ r. ⌜ r ≡ hasEnded (now (place .entry)) ⌝ }
+{
     bytes::byte_at(place, ENDED) == 1
 }
 
 // Clears all but what is kept, the path and the signature.
-pub fn forget(place: &mut [u8]) {
-    bytes::put(place, CALL, &[0u8; 108]);
-    bytes::put(place, HASHES, &[0u8; 5864]);
+pub fn forget(place: &mut [u8])
+    ensures { λ _. ⌜ now (place .exit) ≡ forgotten (now (place .entry)) ⌝ }
+{
+    let call = blank_call();
+    let memory = blank_memory();
+    bytes::put(place, CALL, &call);
+    bytes::put(place, HASHES, &memory);
+}
+
+fn blank_call() -> [u8; 108]
+    ensures { λ r. ⌜ r ≡ zeros 108 ⌝ }
+{
+    [0; 108]
+}
+
+fn blank_memory() -> [u8; 5864]
+    ensures { λ r. ⌜ r ≡ zeros 5864 ⌝ }
+{
+    [0; 5864]
 }
 
 // The kind of the start that came last, where a step of a kind comes now.

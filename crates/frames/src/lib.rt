@@ -1,4 +1,6 @@
 // Messages on a stream of bytes: a frame is the message's length, 2 bytes, big-endian, and the message.
+ghost use mathlib.Core.Path.{_≡_};
+ghost use Rattle.frames.specs.Frame.{frameLength, framed};
 use sha256::bytes;
 
 // What came from a stream: a whole message and its length, the stream's end, or the beginning of a frame and then the end.
@@ -38,13 +40,26 @@ fn fill(fd: i32, buffer: &mut [u8], n: usize) -> bool {
     io::read_full(fd, &mut buffer[..n]) == n
 }
 
-// Writes a frame by one call, and answers whether it went out. A message of more than 4,094 bytes does not.
-pub fn send(fd: i32, message: &[u8]) -> bool {
-    if message.len() > 4094 {
-        return false;
+// Lays the frame of a message at the front of out, and answers its length. A message of more than 4,094 bytes has none: 0, and nothing is
+// laid.
+fn lay(message: &[u8], out: &mut [u8]) -> usize
+    ensures { λ r. ⌜ (r ≡ frameLength (now (message .entry))) × (now (out .exit) ≡ framed (now (message .entry)) (now (out .entry))) ⌝ }
+{
+    if 4094 < message.len() {
+        return 0;
     }
     let length = bytes::be2((message.len() % 65536) as u16);
+    bytes::put2(out, 0, &length, message);
+    message.len() + 2
+}
+
+// Writes a frame by one call, and answers whether it went out. A message of more than 4,094 bytes does not.
+pub fn send(fd: i32, message: &[u8]) -> bool {
     let mut frame = io::buffer();
-    bytes::put2(&mut frame, 0, &length, message);
-    io::write_all(fd, bytes::front(&frame, message.len() + 2))
+    let out: &mut [u8] = &mut frame;
+    let n = lay(message, out);
+    if n == 0 {
+        return false;
+    }
+    io::write_all(fd, bytes::front(out, n))
 }

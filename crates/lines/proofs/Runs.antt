@@ -4,13 +4,14 @@ use mathlib.Core.Bool.{Bool, true, false, cond, _&&_, false≢true}
 use mathlib.Core.List.{List, [], _∷_}
 use Prim.Native.Nat.{ℕ, zero, suc, _+_, _-_, _*_, _%_, _≤_, _<_, min}
 use native.Mathlib.Numerals.{add-one}
-use native.Mathlib.Nat.{min-eq-left, min-eq-right}
+use native.Mathlib.Nat.{min-eq-left, min-eq-right, min-le-right}
 use native.Mathlib.Omega.{arith}
 use lib.Dec.{leb, ltb}
-use lib.ListN.{length, drop, getD, drop-of-length-le}
+use lib.ListN.{length, drop, getD, drop-of-length-le, List·getD-eq-default}
 use lib.Seq.{drop-cons}
 use borrow.Author.Tests.{lt-ltb, le-ltb, ltb-true, ltb-false, leb-true}
-use Rattle.lines.specs.Text.{isDigit, run, numberFrom}
+use Rattle.lines.specs.declared.Digits.{Digits}
+use Rattle.lines.specs.Text.{isDigit, run, number, numberFrom, digitsAt}
 
 module _ (t : ℕ → Bool) (s : List ℕ) (i whole : ℕ) (e : whole ≡ i + run t (drop i s)) where
   -- a byte that passes
@@ -97,3 +98,20 @@ module _ (s : List ℕ) (i value whole : ℕ) (small : value ≤ 9999999) (e : w
   number-ends h =
       let g : numberFrom value (drop i s) ≡ value = rw (drop-of-length-le s {i = i} h) in
       sym (e ∙ rw g (min-eq-left small))
+
+-- a number that was read, from its three parts
+pub digits-are : (text : List ℕ) (at : ℕ) (d : Digits) → d .value ≡ min (number (drop at text)) 9999999
+    → d .next ≡ at + run isDigit (drop at text) → d .found ≡ ltb at (d .next) → d ≡ digitsAt text at
+unfolding digitsAt
+digits-are text at d v n f = let g = f ∙ found-is at (d .next) (run isDigit (drop at text)) n in rw (← v, ← g, ← n)
+
+-- a byte that is not 0 stands within its text
+pub byte-there : (s : List ℕ) (i b : ℕ) → b ≡ getD s i 0 → (b ≡ 0 → ⊥) → i < length s
+byte-there s i b e h =
+    by-test (λ t. i < length s) (ltb i (length s)) (λ l. ltb-true i (length s) l)
+    (λ l. absurd (h (e ∙ List·getD-eq-default s 0 (ltb-false i (length s) l))))
+
+-- what a number that was read has at most
+pub digits-most : (text : List ℕ) (at : ℕ) (d : Digits) → d ≡ digitsAt text at → d .value ≤ 9999999
+unfolding digitsAt
+digits-most text at d e = rw e (min-le-right (number (drop at text)) 9999999)

@@ -1,9 +1,10 @@
 -- Text as programs read it: which bytes are blanks and digits, how many of them a text begins with, and decimal numbers.
 use mathlib.Core.Bool.{Bool, cond, not, _&&_, _||_}
 use mathlib.Core.List.{List, [], _∷_}
-use Prim.Native.Nat.{ℕ, suc, _+_, _-_, _*_}
+use Prim.Native.Nat.{ℕ, suc, _+_, _-_, _*_, min}
 use lib.Dec.{leb, ltb, eqb}
 use lib.ListN.{length, drop, getD}
+use Rattle.lines.specs.declared.Digits.{Digits}
 
 -- A space, a tab or a byte of a line end.
 unfoldable pub isBlank : ℕ → Bool
@@ -44,3 +45,12 @@ numberFrom v (b ∷ s) = cond (isDigit b) (numberFrom (v * 10 + (b - 48)) s) v
 -- The number that the digits at the front of s stand for, 0 where there are none.
 unfoldable pub number : List ℕ → ℕ
 number s = numberFrom 0 s
+
+-- The decimal number at a place of a text: its value, at most 9,999,999, whether a digit is there, and the place behind it.
+unfoldable pub digitsAt : List ℕ → ℕ → Digits
+digitsAt text at =
+    let s = drop at text in record { value = min (number s) 9999999; found = ltb 0 (run isDigit s); next = at + run isDigit s }
+
+-- The first place from `at` on that is no blank.
+unfoldable pub afterBlanks : List ℕ → ℕ → ℕ
+afterBlanks text at = at + run isBlank (drop at text)

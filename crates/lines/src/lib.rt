@@ -1,10 +1,10 @@
 // Text as programs read it: lines, blanks and decimal numbers.
 ghost use mathlib.Core.Bool.{cond};
 ghost use mathlib.Core.Path.{_≡_};
-ghost use Prim.Native.Nat.{_+_, _*_, _%_, _≤_, min};
+ghost use Prim.Native.Nat.{_+_, _*_, _%_, _≤_};
 ghost use lib.Dec.{ltb};
-ghost use lib.ListN.{length, drop};
-ghost use Rattle.lines.specs.Text.{isBlank, isDigit, isOther, run, number, lineLength};
+ghost use lib.ListN.{length};
+ghost use Rattle.lines.specs.Text.{isBlank, isDigit, isOther, run, lineLength, digitsAt, afterBlanks};
 
 // A number read from a text: its value, at most 9,999,999 (a larger one counts as that), whether a digit was there, and what is
 // left is at `next`.
@@ -47,7 +47,7 @@ pub fn line_length(text: &[u8]) -> usize
 
 // The first place from `at` on that is no blank.
 pub fn skip_blanks(text: &[u8], at: usize) -> usize
-    ensures { λ r. ⌜ r ≡ at + run isBlank (drop at (now (text .entry))) ⌝ }
+    ensures { λ r. ⌜ r ≡ afterBlanks (now (text .entry)) at ⌝ }
 {
     let mut i = at;
     while i < text.len() {
@@ -61,9 +61,7 @@ pub fn skip_blanks(text: &[u8], at: usize) -> usize
 
 // The decimal number from `at` on, up to the first byte that is no digit.
 pub fn read_digits(text: &[u8], at: usize) -> Digits
-    ensures { λ r. ⌜ (r .value ≡ min (number (drop at (now (text .entry)))) 9999999)
-        × ((r .found ≡ ltb 0 (run isDigit (drop at (now (text .entry)))))
-        × (r .next ≡ at + run isDigit (drop at (now (text .entry))))) ⌝ }
+    ensures { λ r. ⌜ r ≡ digitsAt (now (text .entry)) at ⌝ }
 {
     let mut value: u32 = 0;
     let mut i = at;

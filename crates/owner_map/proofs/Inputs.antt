@@ -10,7 +10,8 @@ use lib.ListN.{length, drop, length-drop}
 use lib.Seq.{drop-drop}
 use borrow.Author.Tests.{le-leb, lt-leb, eq-eqb, ne-eqb, leb-true}
 use Rattle.sha256.proofs.Cases.{cases-lt}
-use Rattle.lines.specs.Text.{isBlank, isDigit, run, past, number}
+use Rattle.lines.specs.declared.Digits.{Digits}
+use Rattle.lines.specs.Text.{isBlank, isDigit, run, past, number, digitsAt, afterBlanks}
 use Rattle.owner_map.specs.declared.input.Asked.{Asked}
 use Rattle.owner_map.specs.Input.{inRange, firstPart, secondPart, lastPart, twoNumbers, asked}
 
@@ -52,38 +53,52 @@ none-left n k =
     (λ h. le-leb n k h ∙ sym (eq-eqb (n - k) 0 (omega arith)))
 
 -- A number that was read at a place: its value, whether a digit was there, and the place behind it.
-abbrev Read : List ℕ → ℕ → ℕ → Bool → ℕ → Type 0
-Read s at value found next =
-    (value ≡ min (number (drop at s)) 9999999)
-    × ((found ≡ ltb 0 (run isDigit (drop at s))) × (next ≡ at + run isDigit (drop at s)))
+abbrev Read : List ℕ → ℕ → Digits → Type 0
+Read s at d =
+    (d .value ≡ min (number (drop at s)) 9999999)
+    × ((d .found ≡ ltb 0 (run isDigit (drop at s))) × (d .next ≡ at + run isDigit (drop at s)))
 
-module _ (s : List ℕ) (a v b c w d e : ℕ) (f g : Bool)
-    (at-first : a ≡ 0 + run isBlank (drop 0 s)) (first : Read s a v f b)
-    (at-second : c ≡ b + run isBlank (drop b s)) (second : Read s c w g d)
-    (at-end : e ≡ d + run isBlank (drop d s)) where
+read-is : (s : List ℕ) (at : ℕ) (d : Digits) → d ≡ digitsAt s at → Read s at d
+unfolding digitsAt
+read-is s at d e = (rw e, (rw e, rw e))
+
+blanks-at : (s : List ℕ) (a b : ℕ) → b ≡ afterBlanks s a → drop b s ≡ past isBlank (drop a s)
+unfolding afterBlanks
+blanks-at s a b e = past-at isBlank s a b e
+
+module _ (s : List ℕ) (a c e : ℕ) (x y : Digits)
+    (at-first : a ≡ afterBlanks s 0) (x-is : x ≡ digitsAt s a)
+    (at-second : c ≡ afterBlanks s (x .next)) (y-is : y ≡ digitsAt s c)
+    (at-end : e ≡ afterBlanks s (y .next)) where
+  first : Read s a x
+  first = read-is s a x x-is
+
+  second : Read s c y
+  second = read-is s c y y-is
+
   first-is : drop a s ≡ firstPart s
   unfolding firstPart
-  first-is = past-at isBlank s 0 a at-first
+  first-is = blanks-at s 0 a at-first
 
   second-is : drop c s ≡ secondPart s
   unfolding secondPart
   second-is =
-      past-at isBlank s b c at-second ∙ ap (past isBlank) (past-at isDigit s a b (first .1 .1) ∙ ap (past isDigit) first-is)
+      blanks-at s (x .next) c at-second ∙ ap (past isBlank) (past-at isDigit s a (x .next) (first .1 .1) ∙ ap (past isDigit) first-is)
 
   last-is : drop e s ≡ lastPart s
   unfolding lastPart
   last-is =
-      past-at isBlank s d e at-end ∙ ap (past isBlank) (past-at isDigit s c d (second .1 .1) ∙ ap (past isDigit) second-is)
+      blanks-at s (y .next) e at-end ∙ ap (past isBlank) (past-at isDigit s c (y .next) (second .1 .1) ∙ ap (past isDigit) second-is)
 
-  numbers-are : ((f && g) && leb (length s) e) ≡ twoNumbers s
+  numbers-are : ((x .found && y .found) && leb (length s) e) ≡ twoNumbers s
   unfolding twoNumbers
   numbers-are =
       rw (first .1 .0, second .1 .0, first-is, second-is, none-left (length s) e, ← length-drop e s, last-is)
 
-  range-is : inRange v w ≡ inRange (number (firstPart s)) (number (secondPart s))
+  range-is : inRange (x .value) (y .value) ≡ inRange (number (firstPart s)) (number (secondPart s))
   range-is = rw (first .0, second .0, first-is, second-is) (range-capped (number (firstPart s)) (number (secondPart s)))
 
-  module _ (test : Bool) (t : test ≡ (leb (length s) 4096 && ((f && g) && leb (length s) e)) && inRange v w) where
+  module _ (test : Bool) (t : test ≡ (leb (length s) 4096 && ((x .found && y .found) && leb (length s) e)) && inRange (x .value) (y .value)) where
     tested : test ≡ leb (length s) 4096 && twoNumbers s && inRange (number (firstPart s)) (number (secondPart s))
     tested = t ∙ rw (numbers-are, range-is)
 
@@ -91,13 +106,13 @@ module _ (s : List ℕ) (a v b c w d e : ℕ) (f g : Bool)
     unfolding asked
     refused fails = rw (← tested, fails)
 
-    pub wanted : test ≡ true → Asked.Table (v % 256) w ≡ asked s
+    pub wanted : test ≡ true → Asked.Table (x .value % 256) (y .value) ≡ asked s
     unfolding asked
     wanted passes =
-        let x : ℕ = number (firstPart s) in
-        let y : ℕ = number (secondPart s) in
-        let r = in-range x y (both-true (leb (length s) 4096 && twoNumbers s) (inRange x y) (sym tested ∙ passes) .1) in
-        let ev : v ≡ number (firstPart s) = first .0 ∙ rw first-is (min-eq-left (omega (arith, r .0))) in
-        let ew : w ≡ number (secondPart s) = second .0 ∙ rw second-is (min-eq-left (omega (arith, r .1))) in
-        let small : v % 256 ≡ number (firstPart s) = omega (arith, r .0) in
+        let m : ℕ = number (firstPart s) in
+        let n : ℕ = number (secondPart s) in
+        let r = in-range m n (both-true (leb (length s) 4096 && twoNumbers s) (inRange m n) (sym tested ∙ passes) .1) in
+        let ev : x .value ≡ number (firstPart s) = first .0 ∙ rw first-is (min-eq-left (omega (arith, r .0))) in
+        let ew : y .value ≡ number (secondPart s) = second .0 ∙ rw second-is (min-eq-left (omega (arith, r .1))) in
+        let small : x .value % 256 ≡ number (firstPart s) = omega (arith, r .0) in
         rw (← tested, passes, small, ew)

@@ -6,7 +6,7 @@ use native.Mathlib.Omega.{arith}
 use lib.ListN.{length, take}
 use Rattle.sha256.specs.declared.stream.Sha.{Sha}
 use Rattle.sha256.specs.Hash.{sha256}
-use Rattle.sha256.specs.Stream.{streamed}
+use Rattle.sha256.specs.Inner.{streamed}
 use Rattle.owner_map.specs.Table.{headLine, rows, table}
 use Rattle.owner_map.proofs.Pieces.{Filled, next-piece}
 

@@ -3,8 +3,8 @@ ghost use mathlib.Core.Path.{_≡_};
 ghost use Rattle.owner_map.specs.Input.{inRange, asked};
 use lines::read_digits;
 use lines::skip_blanks;
-use tree::test::at_most;
-use tree::test::both;
+use tree::bools::at_most;
+use tree::bools::both;
 
 // A table for a count of servers up to a last position, or nothing that can be printed.
 pub enum Asked {

@@ -6,7 +6,7 @@ ghost use mathlib.Core.Path.{_≡_};
 ghost use mathlib.Core.List.{List, _++_};
 ghost use Prim.Native.Nat.{ℕ};
 ghost use Rattle.sha256.specs.Hash.{sha256};
-ghost use Rattle.sha256.specs.Stream.{streamed};
+ghost use Rattle.sha256.specs.Inner.{streamed};
 ghost use Rattle.owner_map.specs.Input.{asked as askedBy};
 ghost use Rattle.owner_map.specs.Table.{table};
 ghost use Rattle.owner_map.specs.Answer.{answer};

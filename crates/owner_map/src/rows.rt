@@ -4,7 +4,7 @@ ghost use mathlib.Core.Bool.{true};
 ghost use Prim.Native.Nat.{_+_, _-_, _≤_};
 ghost use lib.ListN.{length};
 ghost use Rattle.sha256.specs.Bytes.{written};
-ghost use Rattle.tree.specs.Label.{areFirstLabels};
+ghost use Rattle.tree.specs.Inner.{areFirstLabels};
 ghost use Rattle.owner_map.specs.Table.{cell, row, fitting, piece};
 use sha256::bytes;
 use tree::first_labels;

@@ -2,7 +2,9 @@
 // 1, 2 and 3.
 ghost use mathlib.Core.Path.{_≡_};
 ghost use Prim.Native.Nat.{_<_};
-ghost use lib.ListN.{length};
+ghost use lib.ListN.{length, drop};
+ghost use Rattle.lines.specs.Memory.{zeros};
+ghost use Rattle.programs.specs.Key.{before as beforeOf, treeAt, keysWith};
 use sha256::bytes;
 
 pub const LOG: [u8; 16] = [
@@ -24,31 +26,64 @@ pub const LOG: [u8; 16] = [
     b'1',
 ];
 
-// The memory of the keys, zero. The `ensures` gives only the length, so that no proof computes with the list.
+// The memory of the keys, zero.
 pub fn memory() -> [u8; 200152]
-    ensures { λ r. ⌜ 200152 ≡ length r ⌝ }
+    ensures { λ r. ⌜ (200152 ≡ length r) × (r ≡ zeros 200152) ⌝ }
 {
     [0; 200152]
 }
 
 // How many users stand before user 1, 2 or 3.
 pub fn before(a: u8) -> usize
-    ensures { λ r. ⌜ r < 3 ⌝ }
+    ensures { λ r. ⌜ (r ≡ beforeOf a) × (r < 3) ⌝ }
 {
     (a as usize + 2) % 3
 }
 
+// Where the tree of user 1, 2 or 3 stands.
+fn tree_at(a: u8) -> usize
+    ensures { λ r. ⌜ r ≡ treeAt a ⌝ }
+{
+    3640 + 65504 * before(a)
+}
+
+fn blank_tree() -> [u8; 65504]
+    ensures { λ r. ⌜ r ≡ zeros 65504 ⌝ }
+{
+    [0; 65504]
+}
+
+fn blank_key() -> [u8; 56]
+    ensures { λ r. ⌜ r ≡ zeros 56 ⌝ }
+{
+    [0; 56]
+}
+
 // Makes the key of user 1, 2 or 3, whose seed is the number 32 times and whose I is the number 16 times.
-pub fn make(a: u8, keys: &mut [u8]) {
-    let mut tree = [0u8; 65504];
-    let mut public = [0u8; 56];
+pub fn make(a: u8, keys: &mut [u8])
+    ensures { λ _. ⌜ now (keys .exit) ≡ keysWith a (now (keys .entry)) ⌝ }
+{
+    let mut tree = blank_tree();
+    let mut public = blank_key();
     lms::generate([a; 32], [a; 16], &mut tree);
     lms::public_key([a; 16], &tree, &mut public);
     bytes::put(keys, 56 * before(a), &public);
-    bytes::put(keys, 3640 + 65504 * before(a), &tree);
+    bytes::put(keys, tree_at(a), &tree);
+}
+
+// The memory of the keys, with those of users 1 and 2.
+pub fn of_two() -> [u8; 200152]
+    ensures { λ r. ⌜ (200152 ≡ length r) × (r ≡ keysWith 2 (keysWith 1 (zeros 200152))) ⌝ }
+{
+    let mut keys = memory();
+    make(1, &mut keys);
+    make(2, &mut keys);
+    keys
 }
 
 // The key tree of user 1, 2 or 3, with what follows it.
-pub fn tree_of(keys: &[u8], a: u8) -> &[u8] {
-    bytes::from(keys, 3640 + 65504 * before(a))
+pub fn tree_of(keys: &[u8], a: u8) -> &[u8]
+    ensures { λ r. ⌜ now r ≡ drop (treeAt a) (now (keys .entry)) ⌝ }
+{
+    bytes::from(keys, tree_at(a))
 }

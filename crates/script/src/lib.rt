@@ -1,11 +1,17 @@
 // A line of a studio script: a word, one to four numbers, and a text, the segments of a schedule or the minutes of windows, which take the
 // rest of the line.
+mod form;
 mod list;
+mod number;
 pub mod segments;
 
 ghost use mathlib.Core.Path.{_≡_};
 ghost use lib.ListN.{length};
 ghost use Rattle.script.specs.Length.{tooLong};
+ghost use Rattle.lines.specs.Memory.{zeros};
+ghost use Rattle.script.specs.Line.{isIdle, numbersAt, endOf, nothingFault, textFault, leftFault, faultOf, commandOf};
+use form::Form;
+use form::Rest;
 use lines::Digits;
 use sha256::bytes;
 
@@ -30,15 +36,13 @@ pub enum Word {
     Unknown,
 }
 
-// What is wrong with a line: its word, a number that is missing or out of range, a text that is missing or too long, a rate, a target, a
-// hold or a window's minute that is missing or that two bytes do not hold, or that the line has more than its command takes.
+// What is wrong with a line: its word; one of its numbers, counted from 1, which is missing or not from a least to a greatest one; a text
+// that is missing or too long; a rate, a target, a hold or a window's minute that is missing or that two bytes do not hold; or that the
+// line has more than its command takes.
 pub enum Fault {
     Nothing,
     UnknownWord,
-    FirstNumber,
-    SecondNumber,
-    ThirdNumber,
-    FourthNumber,
+    Number(u8, u32, u32),
     TextLength,
     Rate,
     Target,
@@ -66,10 +70,9 @@ struct Numbers {
     fourth: Digits,
 }
 
-// The memory that a script is read into, zero: it has one byte more than a script may have, so that a longer one is seen to be longer. The
-// `ensures` gives only the length, so that no proof computes with the list.
+// The memory that a script is read into, zero: it has one byte more than a script may have, so that a longer one is seen to be longer.
 pub fn memory() -> [u8; 65537]
-    ensures { λ r. ⌜ 65537 ≡ length r ⌝ }
+    ensures { λ r. ⌜ (65537 ≡ length r) × (r ≡ zeros 65537) ⌝ }
 {
     [0; 65537]
 }
@@ -82,7 +85,9 @@ pub fn is_too_long(text: &[u8]) -> bool
 }
 
 // Whether a line says nothing: it is empty or a comment.
-pub fn is_idle(line: &[u8]) -> bool {
+pub fn is_idle(line: &[u8]) -> bool
+    ensures { λ r. ⌜ r ≡ isIdle (now (line .entry)) ⌝ }
+{
     let start = lines::skip_blanks(line, 0);
     if line.len() <= start {
         return true;
@@ -91,12 +96,15 @@ pub fn is_idle(line: &[u8]) -> bool {
 }
 
 // The command of a line that does not begin with a blank, for a log of so many servers.
-pub fn parse(line: &[u8], servers: u8) -> Command {
+pub fn parse(line: &[u8], servers: u8) -> Command
+    ensures { λ r. ⌜ r ≡ commandOf (now (line .entry)) servers ⌝ }
+{
     let size = lines::find(line, b' ');
-    let word = word_of(bytes::front(line, size));
+    let form = form::of_word(bytes::front(line, size), servers);
     let n = numbers_at(line, size);
-    let text = lines::skip_blanks(line, end(word, n));
-    let fault = fault_of(word, servers, n, bytes::from(line, text));
+    let text = lines::skip_blanks(line, end(form, n));
+    let fault = fault_of(form, n, bytes::from(line, text));
+    let word = form.word;
     Command {
         word,
         first: n.first.value,
@@ -109,11 +117,13 @@ pub fn parse(line: &[u8], servers: u8) -> Command {
 }
 
 // The four numbers from a place on, blanks before each.
-fn numbers_at(line: &[u8], at: usize) -> Numbers {
-    let first = number(line, at);
-    let second = number(line, first.next);
-    let third = number(line, second.next);
-    let fourth = number(line, third.next);
+fn numbers_at(line: &[u8], at: usize) -> Numbers
+    ensures { λ r. ⌜ r ≡ numbersAt (now (line .entry)) at ⌝ }
+{
+    let first = number::next(line, at);
+    let second = number::next(line, first.next);
+    let third = number::next(line, second.next);
+    let fourth = number::next(line, third.next);
     Numbers {
         first,
         second,
@@ -122,130 +132,71 @@ fn numbers_at(line: &[u8], at: usize) -> Numbers {
     }
 }
 
-// Where the numbers end that a word takes.
-fn end(word: Word, n: Numbers) -> usize {
-    if takes_fourth(word) {
+// Where the numbers end that a command takes.
+fn end(form: Form, n: Numbers) -> usize
+    ensures { λ r. ⌜ r ≡ endOf form n ⌝ }
+{
+    if 4 <= form.numbers {
         return n.fourth.next;
     }
-    if takes_third(word) {
+    if 3 <= form.numbers {
         return n.third.next;
     }
-    if takes_second(word) {
+    if 2 <= form.numbers {
         return n.second.next;
     }
     n.first.next
 }
 
-fn word_of(s: &[u8]) -> Word {
-    if bytes::same(s, b"servers") {
-        return Word::Servers;
-    }
-    if bytes::same(s, b"write") {
-        return Word::Write;
-    }
-    if bytes::same(s, b"strike") {
-        return Word::Strike;
-    }
-    if bytes::same(s, b"read") {
-        return Word::Read;
-    }
-    if bytes::same(s, b"update") {
-        return Word::Update;
-    }
-    if bytes::same(s, b"board") {
-        return Word::Board;
-    }
-    if bytes::same(s, b"settled") {
-        return Word::Settled;
-    }
-    if bytes::same(s, b"cut") {
-        return Word::Cut;
-    }
-    if bytes::same(s, b"resume") {
-        return Word::Resume;
-    }
-    if bytes::same(s, b"fork") {
-        return Word::Fork;
-    }
-    kiln_word_of(s)
-}
-
-// The words for schedules.
-fn kiln_word_of(s: &[u8]) -> Word {
-    if bytes::same(s, b"fire") {
-        return Word::Fire;
-    }
-    if bytes::same(s, b"report") {
-        return Word::Report;
-    }
-    if bytes::same(s, b"warm") {
-        return Word::Warm;
-    }
-    if bytes::same(s, b"begin") {
-        return Word::Begin;
-    }
-    Word::Unknown
-}
-
-// The number after the blanks at a place.
-fn number(line: &[u8], at: usize) -> Digits {
-    number_at(line, lines::skip_blanks(line, at))
-}
-
-// The number at a place. It counts as missing where neither a blank nor the line's end follows it.
-fn number_at(line: &[u8], at: usize) -> Digits {
-    let d = lines::read_digits(line, at);
-    let next = d.next;
-    if line.len() <= next {
-        return d;
-    }
-    if next < lines::skip_blanks(line, next) {
-        return d;
-    }
-    Digits {
-        value: 0,
-        found: false,
-        next,
-    }
-}
-
 // What is wrong with a line, whose numbers are followed by what is left of it.
-fn fault_of(word: Word, servers: u8, n: Numbers, left: &[u8]) -> Fault {
-    if is_unknown(word) {
+fn fault_of(form: Form, n: Numbers, left: &[u8]) -> Fault
+    ensures { λ r. ⌜ r ≡ faultOf form n (now (left .entry)) ⌝ }
+{
+    if form.numbers == 0 {
         return Fault::UnknownWord;
     }
-    if !is_within(n.first, first_least(word), first_most(word, servers)) {
-        return Fault::FirstNumber;
+    if number::is_wrong(1, form.numbers, n.first, form.first) {
+        return Fault::Number(1, form.first.least, form.first.most);
     }
-    if takes_second(word) {
-        if !is_within(n.second, second_least(word), second_most(word)) {
-            return Fault::SecondNumber;
-        }
+    if number::is_wrong(2, form.numbers, n.second, form.second) {
+        return Fault::Number(2, form.second.least, form.second.most);
     }
-    if takes_third(word) {
-        if !is_within(n.third, 0, 65535) {
-            return Fault::ThirdNumber;
-        }
+    if number::is_wrong(3, form.numbers, n.third, number::two_bytes()) {
+        return Fault::Number(3, 0, 65535);
     }
-    if takes_fourth(word) {
-        if !is_within(n.fourth, 0, 65535) {
-            return Fault::FourthNumber;
-        }
+    if number::is_wrong(4, form.numbers, n.fourth, number::two_bytes()) {
+        return Fault::Number(4, 0, 65535);
     }
-    if takes_text(word) {
-        return text_fault(left.len());
+    let rest = form.rest;
+    left_fault(rest, left)
+}
+
+// What is wrong with what is left of a line behind its numbers.
+fn left_fault(rest: Rest, left: &[u8]) -> Fault
+    ensures { λ r. ⌜ r ≡ leftFault rest (now (left .entry)) ⌝ }
+{
+    match rest {
+        Rest::Nothing => nothing_fault(left.len()),
+        Rest::Text => text_fault(left.len()),
+        Rest::Segments => list::fault(rest, left),
+        Rest::Minutes => list::fault(rest, left),
     }
-    if takes_list(word) {
-        return list::fault(word, left);
-    }
-    if 0 < left.len() {
+}
+
+// What is wrong with so many bytes that a command does not take.
+fn nothing_fault(length: usize) -> Fault
+    ensures { λ r. ⌜ r ≡ nothingFault length ⌝ }
+{
+    if 0 < length {
         return Fault::TooMuch;
     }
     Fault::Nothing
 }
 
 // What is wrong with a text of so many bytes.
-fn text_fault(length: usize) -> Fault {
+fn text_fault(length: usize) -> Fault
+    ensures { λ r. ⌜ r ≡ textFault length ⌝ }
+{
     if length == 0 {
         return Fault::TextLength;
     }
@@ -253,99 +204,4 @@ fn text_fault(length: usize) -> Fault {
         return Fault::TextLength;
     }
     Fault::Nothing
-}
-
-fn is_unknown(word: Word) -> bool {
-    match word {
-        Word::Unknown => true,
-        _ => false,
-    }
-}
-
-fn is_within(d: Digits, least: u32, most: u32) -> bool {
-    if !d.found {
-        return false;
-    }
-    if d.value < least {
-        return false;
-    }
-    d.value <= most
-}
-
-// The least and the greatest first number: how many servers, a server, or a user.
-pub fn first_least(word: Word) -> u32 {
-    match word {
-        Word::Servers => 2,
-        _ => 1,
-    }
-}
-
-pub fn first_most(word: Word, servers: u8) -> u32 {
-    match word {
-        Word::Servers => 16,
-        Word::Fork => servers as u32,
-        _ => 3,
-    }
-}
-
-fn takes_second(word: Word) -> bool {
-    match word {
-        Word::Strike => true,
-        Word::Read => true,
-        Word::Settled => true,
-        Word::Cut => true,
-        Word::Report => true,
-        Word::Warm => true,
-        Word::Begin => true,
-        _ => false,
-    }
-}
-
-// The least and the greatest second number: a position, or after how many answers a write is cut.
-pub fn second_least(word: Word) -> u32 {
-    match word {
-        Word::Cut => 0,
-        _ => 1,
-    }
-}
-
-pub fn second_most(word: Word) -> u32 {
-    match word {
-        Word::Cut => 98,
-        _ => 1048576,
-    }
-}
-
-// Whether there is a third number: the first end of a range of starts, or a minute of the week.
-fn takes_third(word: Word) -> bool {
-    match word {
-        Word::Warm => true,
-        Word::Begin => true,
-        _ => false,
-    }
-}
-
-// Whether there is a fourth number: the second end of a range of starts.
-fn takes_fourth(word: Word) -> bool {
-    match word {
-        Word::Warm => true,
-        _ => false,
-    }
-}
-
-fn takes_text(word: Word) -> bool {
-    match word {
-        Word::Write => true,
-        Word::Cut => true,
-        Word::Resume => true,
-        _ => false,
-    }
-}
-
-fn takes_list(word: Word) -> bool {
-    match word {
-        Word::Fire => true,
-        Word::Begin => true,
-        _ => false,
-    }
 }

@@ -1,6 +1,9 @@
 // What a line lists after its numbers, with blanks between them: the 1 to 16 segments of a schedule, or the minutes of windows.
+ghost use mathlib.Core.Path.{_≡_};
+ghost use Rattle.script.specs.Listed.{most as mostOf, minuteItem, segmentItem, itemAt, isFault, listFault};
 use crate::Fault;
-use crate::Word;
+use crate::form::Rest;
+use crate::number;
 use crate::segments;
 
 // A segment or a minute that a line lists: what is wrong with it, and what is left of the line is at `next`.
@@ -10,12 +13,14 @@ struct Item {
 }
 
 // What is wrong with what a line lists.
-pub fn fault(word: Word, text: &[u8]) -> Fault {
-    let most = most(word);
+pub fn fault(rest: Rest, text: &[u8]) -> Fault
+    ensures { λ r. ⌜ r ≡ listFault rest (mostOf rest) (now (text .entry)) 0 ⌝ }
+{
+    let most = most(rest);
     let mut at = 0;
     let mut count: u8 = 0;
     while count < most {
-        let item = item_at(word, text, at);
+        let item = item_at(rest, text, at);
         let wrong = item.fault;
         if is_fault(wrong) {
             return wrong;
@@ -31,21 +36,31 @@ pub fn fault(word: Word, text: &[u8]) -> Fault {
 
 // How many segments or minutes a line lists at most. The minutes are those of 33 windows, one more than the rules allow, so that the
 // report, and not the script, refuses them.
-fn most(word: Word) -> u8 {
-    match word {
-        Word::Begin => 66,
-        _ => 16,
+fn most(rest: Rest) -> u8
+    ensures { λ r. ⌜ r ≡ mostOf rest ⌝ }
+{
+    match rest {
+        Rest::Nothing => 0,
+        Rest::Text => 0,
+        Rest::Segments => 16,
+        Rest::Minutes => 66,
     }
 }
 
-fn item_at(word: Word, text: &[u8], at: usize) -> Item {
-    match word {
-        Word::Begin => minute_at(text, at),
-        _ => segment_at(text, at),
+fn item_at(rest: Rest, text: &[u8], at: usize) -> Item
+    ensures { λ r. ⌜ r ≡ itemAt rest (now (text .entry)) at ⌝ }
+{
+    match rest {
+        Rest::Nothing => segment_at(text, at),
+        Rest::Text => segment_at(text, at),
+        Rest::Segments => segment_at(text, at),
+        Rest::Minutes => minute_at(text, at),
     }
 }
 
-fn segment_at(text: &[u8], at: usize) -> Item {
+fn segment_at(text: &[u8], at: usize) -> Item
+    ensures { λ r. ⌜ r ≡ segmentItem (now (text .entry)) at ⌝ }
+{
     let s = segments::segment(text, at);
     let fault = s.fault;
     Item {
@@ -55,26 +70,41 @@ fn segment_at(text: &[u8], at: usize) -> Item {
 }
 
 // The minute after the blanks at a place. That there is none at the line's end is no fault: the report refuses a list of no windows.
-fn minute_at(text: &[u8], at: usize) -> Item {
-    let d = crate::number(text, at);
+fn minute_at(text: &[u8], at: usize) -> Item
+    ensures { λ r. ⌜ r ≡ minuteItem (now (text .entry)) at ⌝ }
+{
+    let d = number::next(text, at);
     let next = lines::skip_blanks(text, d.next);
-    if at < text.len() {
-        if !crate::is_within(d, 0, 65535) {
-            return Item {
-                fault: Fault::Minute,
-                next,
-            };
-        }
+    if text.len() <= at {
+        return Item {
+            fault: Fault::Nothing,
+            next,
+        };
+    }
+    if number::is_within(d, number::two_bytes()) {
+        return Item {
+            fault: Fault::Nothing,
+            next,
+        };
     }
     Item {
-        fault: Fault::Nothing,
+        fault: Fault::Minute,
         next,
     }
 }
 
-fn is_fault(fault: Fault) -> bool {
+fn is_fault(fault: Fault) -> bool
+    ensures { λ r. ⌜ r ≡ isFault fault ⌝ }
+{
     match fault {
         Fault::Nothing => false,
-        _ => true,
+        Fault::UnknownWord => true,
+        Fault::Number(_, _, _) => true,
+        Fault::TextLength => true,
+        Fault::Rate => true,
+        Fault::Target => true,
+        Fault::Hold => true,
+        Fault::Minute => true,
+        Fault::TooMuch => true,
     }
 }

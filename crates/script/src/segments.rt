@@ -1,6 +1,11 @@
 // The segments of a schedule on a line: a rate, which may be below 0, a target and a hold for each, with blanks between them.
+ghost use mathlib.Core.Path.{_≡_};
+ghost use Rattle.script.specs.Segment.{fromZero, belowZero, rateAt, segmentFault, segmentAt};
 use crate::Fault;
+use crate::number;
+use crate::number::Range;
 use lines::Digits;
+use sha256::bytes;
 
 // A segment that a line lists: its numbers as two bytes hold them, the rate in two's complement; what is wrong with it; and what is left
 // of the line is at `next`.
@@ -20,10 +25,12 @@ struct Rate {
 }
 
 // The segment after the blanks at a place.
-pub fn segment(text: &[u8], at: usize) -> Listed {
+pub fn segment(text: &[u8], at: usize) -> Listed
+    ensures { λ r. ⌜ r ≡ segmentAt (now (text .entry)) at ⌝ }
+{
     let rate = rate_at(text, lines::skip_blanks(text, at));
-    let target = crate::number(text, rate.next);
-    let hold = crate::number(text, target.next);
+    let target = number::next(text, rate.next);
+    let hold = number::next(text, target.next);
     let fault = fault_of(rate, target, hold);
     Listed {
         rate: rate.bits,
@@ -35,37 +42,55 @@ pub fn segment(text: &[u8], at: usize) -> Listed {
 }
 
 // The rate at a place.
-fn rate_at(text: &[u8], at: usize) -> Rate {
-    if at < text.len() {
-        if text[at] == b'-' {
-            return below_0(crate::number_at(text, at + 1));
-        }
+fn rate_at(text: &[u8], at: usize) -> Rate
+    ensures { λ r. ⌜ r ≡ rateAt (now (text .entry)) at ⌝ }
+{
+    if bytes::byte_at(text, at) != b'-' {
+        return from_0(number::at_place(text, at));
     }
-    let d = crate::number_at(text, at);
+    below_0(number::at_place(text, at + 1))
+}
+
+// The rate with these digits and no sign.
+fn from_0(d: Digits) -> Rate
+    ensures { λ r. ⌜ r ≡ fromZero d ⌝ }
+{
+    let range = Range {
+        least: 0,
+        most: 32767,
+    };
     Rate {
         bits: (d.value % 65536) as u16,
-        fits: crate::is_within(d, 0, 32767),
+        fits: number::is_within(d, range),
         next: d.next,
     }
 }
 
 // The rate with these digits after a minus sign.
-fn below_0(d: Digits) -> Rate {
+fn below_0(d: Digits) -> Rate
+    ensures { λ r. ⌜ r ≡ belowZero d ⌝ }
+{
+    let range = Range {
+        least: 0,
+        most: 32768,
+    };
     Rate {
         bits: ((65536 - d.value % 65536) % 65536) as u16,
-        fits: crate::is_within(d, 0, 32768),
+        fits: number::is_within(d, range),
         next: d.next,
     }
 }
 
-fn fault_of(rate: Rate, target: Digits, hold: Digits) -> Fault {
+fn fault_of(rate: Rate, target: Digits, hold: Digits) -> Fault
+    ensures { λ r. ⌜ r ≡ segmentFault rate target hold ⌝ }
+{
     if !rate.fits {
         return Fault::Rate;
     }
-    if !crate::is_within(target, 0, 65535) {
+    if !number::is_within(target, number::two_bytes()) {
         return Fault::Target;
     }
-    if !crate::is_within(hold, 0, 65535) {
+    if !number::is_within(hold, number::two_bytes()) {
         return Fault::Hold;
     }
     Fault::Nothing

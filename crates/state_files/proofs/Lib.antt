@@ -2,3 +2,4 @@
 pub mod Slots
 pub mod Written
 pub mod Saved
+pub mod Paths

@@ -1,3 +1,5 @@
--- Slots of a state file, and the file of a server.
+-- Slots of a state file, the file of a server, the arguments of programs, and the paths of files.
 pub mod Slot
 pub mod Server
+pub mod Argument
+pub mod Path

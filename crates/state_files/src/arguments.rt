@@ -1,5 +1,7 @@
 // The arguments that programs of a log share: N, the own number, the log's name and the file of the users' public keys, one after the
 // other.
+ghost use mathlib.Core.Path.{_≡_};
+ghost use Rattle.state_files.specs.Argument.{numberOf, isFrom, isUserList, settingsFit};
 use sha256::bytes;
 
 // What a log is set up with: N, the own number, the log's name, filled up with zeros, and the name's length. A number that is misshapen is
@@ -24,8 +26,18 @@ pub fn number(i: usize) -> u32 {
     let mut room = [0u8; 16];
     let text: &mut [u8] = &mut room;
     let n = os::arg(i, text);
-    let d = lines::read_digits(bytes::front(text, n), 0);
-    if d.next == n { d.value } else { 0 }
+    number_of(bytes::front(text, n))
+}
+
+// The number that a word is, 0 where it is not digits alone.
+fn number_of(word: &[u8]) -> u32
+    ensures { λ r. ⌜ r ≡ numberOf (now (word .entry)) ⌝ }
+{
+    let d = lines::read_digits(word, 0);
+    if d.next == word.len() {
+        return d.value;
+    }
+    0
 }
 
 // N, the own number and the name, in three arguments.
@@ -55,15 +67,37 @@ pub fn load(i: usize, into: &mut [u8]) -> usize {
 }
 
 // Whether the settings are in their ranges, the own number not above `most`: N, the name's length, and the length of the list of users.
-pub fn fit(s: Settings, most: u32, users: &[u8]) -> bool {
-    if s.servers < 2 || 16 < s.servers {
+pub fn fit(s: Settings, most: u32, users: &[u8]) -> bool
+    ensures { λ r. ⌜ r ≡ settingsFit s most (now (users .entry)) ⌝ }
+{
+    if !is_from(2, 16, s.servers as usize) {
         return false;
     }
-    if s.own < 1 || most < s.own {
+    if !is_from(1, most as usize, s.own as usize) {
         return false;
     }
-    if s.name == 0 {
+    if s.name < 1 {
         return false;
     }
-    0 < users.len() && users.len() <= 3584 && users.len() % 56 == 0
+    is_user_list(users.len())
+}
+
+// Whether n is from a least to a greatest number.
+fn is_from(least: usize, most: usize, n: usize) -> bool
+    ensures { λ r. ⌜ r ≡ isFrom least most n ⌝ }
+{
+    if n < least {
+        return false;
+    }
+    n <= most
+}
+
+// Whether so many bytes are the public keys of 1 to 64 users.
+fn is_user_list(n: usize) -> bool
+    ensures { λ r. ⌜ r ≡ isUserList n ⌝ }
+{
+    if !is_from(1, 3584, n) {
+        return false;
+    }
+    n % 56 == 0
 }

@@ -2,6 +2,7 @@
 ghost use mathlib.Core.Path.{_≡_};
 ghost use Rattle.io.specs.Counts.{Counts};
 ghost use Rattle.state_files.specs.Slot.{toℕ};
+ghost use Rattle.state_files.specs.Path.{pathLength, pathLaid};
 use sha256::bytes;
 
 const MOST: usize = 4000;
@@ -15,11 +16,17 @@ enum Way {
 }
 
 // Lays the path of a file in a folder at the front of out, and answers its length: 0, which names no file, where a name is too long.
-fn path(folder: &[u8], name: &[u8], out: &mut [u8]) -> usize {
-    if folder.len() > MOST {
+fn path(folder: &[u8], name: &[u8], out: &mut [u8]) -> usize
+    ensures { λ r. ⌜ (r ≡ pathLength (now (folder .entry)) (now (name .entry)) (now (out .entry)))
+        × (now (out .exit) ≡ pathLaid (now (folder .entry)) (now (name .entry)) (now (out .entry))) ⌝ }
+{
+    if MOST < folder.len() {
         return 0;
     }
-    if name.len() > 64 {
+    if 64 < name.len() {
+        return 0;
+    }
+    if out.len() < folder.len() + 1 + name.len() {
         return 0;
     }
     bytes::put2(out, 0, folder, b"/");

@@ -1,4 +1,6 @@
 // What a program says on standard error.
+ghost use mathlib.Core.Path.{_≡_};
+ghost use Rattle.state_files.specs.Slot.{isCut};
 use crate::slot;
 use libc::STDERR_FILENO;
 
@@ -16,6 +18,11 @@ pub fn cut_slots(first: &[u8], one: bool, second: &[u8], two: bool) {
 }
 
 // Whether a slot that does not count holds something.
-fn is_cut(s: &[u8], counts: bool) -> bool {
-    !counts && slot::number_at(s, 0) != 0
+fn is_cut(s: &[u8], counts: bool) -> bool
+    ensures { λ r. ⌜ r ≡ isCut (now (s .entry)) counts ⌝ }
+{
+    if counts {
+        return false;
+    }
+    slot::number_at(s, 0) != 0
 }

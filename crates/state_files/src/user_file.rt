@@ -1,5 +1,8 @@
 // The file `state` of a user: slot 1 at byte 0 and slot 2 at byte 8,192. A slot of 4,320 bytes has the state's number, the setup's hash,
 // what the user keeps with path and signature, the entry of its last write with its length, and the check.
+ghost use mathlib.Core.Path.{_≡_};
+ghost use mathlib.Core.List.{[]};
+ghost use Rattle.state_files.specs.Slot.{advanced};
 use crate::file;
 use crate::report;
 use crate::slot;
@@ -18,8 +21,10 @@ pub const ENTRY: usize = 3264;
 
 pub const SECOND: u32 = 8192;
 
-// Saves the next state of a user, and answers whether it is on its device.
-pub fn save(fd: i32, s: &mut [u8]) -> bool {
+// Saves the next state of a user, and answers whether it is on its device. The slot is that of the next state in any case.
+pub fn save(fd: i32, s: &mut [u8]) -> bool
+    ensures { λ r. ⌜ now (s .exit) ≡ advanced (now (s .entry)) [] ⌝ }
+{
     slot::advance(s, b"");
     if !file::write_at(fd, s, slot::place(slot::number_at(s, 0), SECOND)) {
         return false;

@@ -5,7 +5,7 @@ use native.Mathlib.Omega.{arith}
 use lib.ListN.{length, drop}
 use borrow.Author.Tests.{not-true, not-false}
 use Rattle.lines.specs.Text.{isDigit, run, number, numberFrom}
-use Rattle.lines.proofs.Runs.{run-more, run-stops, run-ends, found-is, number-more, number-stops, number-ends}
+use Rattle.lines.proofs.Runs.{run-more, run-stops, run-ends, number-more, number-stops, number-ends, digits-are}
 use Rattle.lines.proofs.read_digits.Statement.{statement}
 use Rattle.lines.proofs.read_digits.Tie as tie
 
@@ -33,7 +33,7 @@ returns c =
     let l = c .before .before .before .before .loop in
     let d = sym (c .before .is-digit .ensures) ∙ not-true _ (c .if1 .taken) in
     let i = run-stops isDigit _ _ _ (l .inv .1 .0) (c .before .before .before .loop-test .taken) d in
-    (number-stops _ _ _ _ (l .inv .0) (l .inv .1 .1) (c .before .before .before .loop-test .taken) d, (found-is _ _ _ i, i))
+    digits-are _ _ _ (number-stops _ _ _ _ (l .inv .0) (l .inv .1 .1) (c .before .before .before .loop-test .taken) d) i refl
 
 longer-requires : tie.Need-longer-requires Inv-loop μ-loop
 longer-requires c κs = search needs
@@ -56,7 +56,7 @@ returns-2 : tie.Need-returns-2 Inv-loop μ-loop
 returns-2 c =
     let l = c .before .loop in
     let i = run-ends isDigit _ _ _ (l .inv .1 .0) (c .loop-test .left) in
-    (number-ends _ _ _ _ (l .inv .0) (l .inv .1 .1) (c .loop-test .left), (found-is _ _ _ i, i))
+    digits-are _ _ _ (number-ends _ _ _ _ (l .inv .0) (l .inv .1 .1) (c .loop-test .left)) i refl
 
 pub read-digits-spec : {M : Type 1} → statement M
 read-digits-spec =

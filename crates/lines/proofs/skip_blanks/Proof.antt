@@ -3,7 +3,7 @@ use mathlib.Core.Path.{_≡_, refl, _∙_, sym}
 use Prim.Native.Nat.{_+_, _-_}
 use lib.ListN.{length, drop}
 use borrow.Author.Tests.{not-true, not-false}
-use Rattle.lines.specs.Text.{isBlank, run}
+use Rattle.lines.specs.Text.{isBlank, run, afterBlanks}
 use Rattle.lines.proofs.Runs.{run-more, run-stops, run-ends}
 use Rattle.lines.proofs.skip_blanks.Statement.{statement}
 use Rattle.lines.proofs.skip_blanks.Tie as tie
@@ -24,6 +24,7 @@ is-blank-requires : tie.Need-is-blank-requires Inv-loop μ-loop
 is-blank-requires c κs = search needs
 
 returns : tie.Need-returns Inv-loop μ-loop
+unfolding afterBlanks
 returns c =
     let loop-inv = c .before .before .before .before .loop .inv in
     let loop-test-taken = c .before .before .before .loop-test .taken in
@@ -42,6 +43,7 @@ loop-again c =
     run-more isBlank _ _ _ loop-inv loop-test-taken (sym (c .before .is-blank .ensures) ∙ not-false _ (c .if1 .left))
 
 returns-2 : tie.Need-returns-2 Inv-loop μ-loop
+unfolding afterBlanks
 returns-2 c = run-ends isBlank _ _ _ (c .before .loop .inv) (c .loop-test .left)
 
 pub skip-blanks-spec : {M : Type 1} → statement M

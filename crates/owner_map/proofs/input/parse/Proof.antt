@@ -58,7 +58,7 @@ returns c =
     let both3 = c .before .before .before .before .both3 .ensures in
     let in-range = c .before .before .before .in-range .ensures in
     let both4 = c .before .before .both4 .ensures in
-    wanted _ _ _ _ _ _ _ _ _ _ skip-blanks read-digits skip-blanks2 read-digits2 skip-blanks3 _
+    wanted _ _ _ _ _ _ skip-blanks read-digits skip-blanks2 read-digits2 skip-blanks3 _
     (both4 ∙ rw (in-range, both3, at-most2, both2, at-most, both)) (c .before .if1 .taken)
 
 returns-2 : tie.Need-returns-2
@@ -75,7 +75,7 @@ returns-2 c =
     let at-most2 = c .before .before .before .before .at-most2 .ensures in
     let both3 = c .before .before .before .both3 .ensures in
     let in-range = c .before .before .in-range .ensures in
-    refused _ _ _ _ _ _ _ _ _ _ skip-blanks read-digits skip-blanks2 read-digits2 skip-blanks3 _
+    refused _ _ _ _ _ _ skip-blanks read-digits skip-blanks2 read-digits2 skip-blanks3 _
     (c .before .both4 .ensures ∙ rw (in-range, both3, at-most2, both2, at-most, both)) (c .if1 .left)
 
 pub parse-spec : {M : Type 1} → statement M

@@ -1,19 +1,21 @@
--- `numbers` is safe and ends. What is left of the text falls with each byte.
-use borrow.Author.Needs.{needs}
+use Rattle.programs.proofs.Cases.{byte-read, all-read}
+use Rattle.lines.specs.Memory.{zeros}
+use Rattle.programs.specs.Case.{numbersFrom, numbersOf}
+use lib.ListN.{length, drop}
 use Prim.Native.Nat.{_≤_, _-_}
-use mathlib.Core.Path.{_≡_}
-use lib.ListN.{length}
+use mathlib.Core.Path.{_≡_, refl}
+use borrow.Author.Needs.{needs}
 use Rattle.programs.proofs.line.numbers.Statement.{statement}
 use Rattle.programs.proofs.line.numbers.Tie as tie
 
 abbrev Inv-loop : tie.InvT-loop
-Inv-loop text f₀ k₀ i₀ f k i = (i ≤ length text) × (length f ≡ 16)
+Inv-loop text f₀ k₀ i₀ f k i = (i ≤ length text) × ((length f ≡ 16) × (numbersFrom text 0 f₀ ≡ numbersFrom (drop i text) k f))
 
 abbrev μ-loop : tie.MeasureT-loop
 μ-loop text f₀ k₀ i₀ f k i = length text - i
 
 loop-holds : tie.Need-loop-holds Inv-loop μ-loop
-loop-holds c = search needs
+loop-holds c = (search needs, (search needs, refl))
 
 shared-slice-read-b : tie.Need-shared-slice-read-b Inv-loop μ-loop
 shared-slice-read-b c = search needs
@@ -43,10 +45,20 @@ loop-less : tie.Need-loop-less Inv-loop μ-loop
 loop-less c = search needs
 
 loop-again : tie.Need-loop-again Inv-loop μ-loop
-loop-again c = search needs
+loop-again c =
+    let loop-inv-1-1 = c .before .before .before .before .loop .inv .1 .1 in
+    let loop-test-taken = c .before .before .before .loop-test .taken in (
+      search needs,
+      (
+        search needs,
+        byte-read _ _ _ _ _ loop-inv-1-1 _ _ loop-test-taken (c .before .number-of .ensures .0)
+            (c .longer .ensures),
+      ),
+    )
 
 returns : tie.Need-returns Inv-loop μ-loop
-returns c = search needs
+unfolding numbersOf zeros
+returns c = all-read _ _ _ _ _ (c .before .loop .inv .1 .1) (c .loop-test .left)
 
 pub numbers-spec : {M : Type 1} → statement M
 numbers-spec =

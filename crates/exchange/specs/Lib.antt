@@ -1,0 +1,2 @@
+-- A user's place: the layout that programs read.
+pub mod UserPlace

@@ -1,0 +1,2 @@
+-- Messages on a stream of bytes.
+pub mod Frame

@@ -1,0 +1,3 @@
+-- Laws of the numbers of a text.
+pub mod Cases
+pub mod Lists

@@ -1,0 +1,3 @@
+-- Laws of a script's lines.
+pub mod Lines
+pub mod Lists

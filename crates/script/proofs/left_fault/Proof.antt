@@ -1,0 +1,57 @@
+use mathlib.Core.Path.{_∙_}
+use borrow.Author.Needs.{needs}
+use Rattle.script.proofs.left_fault.Statement.{statement}
+use Rattle.script.proofs.left_fault.Tie as tie
+
+enum-told : tie.Need-enum-told
+enum-told c = search needs
+
+nothing-fault-requires : tie.Need-nothing-fault-requires
+nothing-fault-requires c κs = search needs
+
+enum-told-2 : tie.Need-enum-told-2
+enum-told-2 c = search needs
+
+text-fault-requires : tie.Need-text-fault-requires
+text-fault-requires c κs = search needs
+
+enum-told-3 : tie.Need-enum-told-3
+enum-told-3 c = search needs
+
+fault-requires : tie.Need-fault-requires
+fault-requires c κs = search needs
+
+enum-told-4 : tie.Need-enum-told-4
+enum-told-4 c = search needs
+
+fault-requires-2 : tie.Need-fault-requires-2
+fault-requires-2 c κs = search needs
+
+returns : tie.Need-returns
+returns c = rw (c .before .enum-told .given .1) (c .nothing-fault .ensures)
+
+returns-2 : tie.Need-returns-2
+returns-2 c = rw (c .before .enum-told2 .given .1) (c .text-fault .ensures)
+
+returns-3 : tie.Need-returns-3
+returns-3 c = c .fault .ensures ∙ rw (c .before .enum-told3 .given .1)
+
+returns-4 : tie.Need-returns-4
+returns-4 c = c .fault2 .ensures ∙ rw (c .before .enum-told4 .given .1)
+
+pub left-fault-spec : {M : Type 1} → statement M
+left-fault-spec =
+    tie.close
+    (tie.spec
+    enum-told
+    nothing-fault-requires
+    enum-told-2
+    text-fault-requires
+    enum-told-3
+    fault-requires
+    enum-told-4
+    fault-requires-2
+    returns
+    returns-2
+    returns-3
+    returns-4)
