@@ -31,7 +31,7 @@ pub fn draw(
     }
     let mut marks = [0u32; 4096];
     let standing: &mut [u32] = &mut marks;
-    standing::board(targets, standing);
+    entry_board::board(targets, standing);
     print::number(b"of ", n);
     print::text(b" entries these insertions stand:\n");
     print_standing(g, file, n, users, keys, memory, links, standing);

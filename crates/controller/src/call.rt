@@ -2,7 +2,7 @@
 use crate::links;
 use crate::step;
 use crate::step::Step;
-use lent_bytes::using::Asked;
+use c_layout::using::Asked;
 use sha256::bytes;
 use state_files::arguments::Settings;
 use state_files::user_file;

@@ -1,8 +1,8 @@
 // What is printed of calls, entries and the user's state.
 use crate::advice;
 use crate::call;
+use c_layout::using::Asked;
 use firing::entry;
-use lent_bytes::using::Asked;
 use programs::print;
 use programs::sentence;
 use sha256::bytes;

@@ -1,9 +1,9 @@
 // A step of a user's call: its start, or an answer that it takes in. The user's memory is one slice of 14,586 bytes: its state
 // (`user_file`), the state as it was saved last, the call, its hashes, the held entry, the request and the entry that is read.
 use crate::key;
-use lent_bytes::taking;
-use lent_bytes::using;
-use lent_bytes::using::Asked;
+use c_layout::taking;
+use c_layout::using;
+use c_layout::using::Asked;
 use sha256::bytes;
 use state_files::arguments::Settings;
 use state_files::user_file;

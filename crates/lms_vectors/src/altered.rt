@@ -5,19 +5,11 @@ use sha256::bytes;
 
 // Reads an accepted record, with a byte behind its key and its signature, and runs the changes below.
 pub fn run(path: &[u8]) {
-    let mut text = [0u8; 8192];
-    let n = record::read(path, &mut text);
-    let all = bytes::front(&text, n);
     let mut key = [0u8; 57];
     let mut signature = [0u8; 2509];
     let mut message = [0u8; 256];
-    figures::decode(record::line(all), &mut key);
-    figures::decode(record::line(record::after_line(all)), &mut signature);
-    let m = figures::decode(
-        record::line(record::after_line(record::after_line(all))),
-        &mut message,
-    );
-    each(&mut key, bytes::front(&message, m), &mut signature);
+    let n = record::fields(path, &mut key, &mut signature, &mut message);
+    each(&mut key, bytes::front(&message, n.third), &mut signature);
 }
 
 // The record with each change, and at last as it is.

@@ -5,18 +5,10 @@ use sha256::bytes;
 
 // Reads a key's seed, I and randomizer and a record's text, and runs the steps below with them.
 pub fn run(name: &[u8], key_path: &[u8], path: &[u8], number: u32) {
-    let mut text = [0u8; 8192];
-    let n = record::read(key_path, &mut text);
-    let all = bytes::front(&text, n);
     let mut seed = [0u8; 32];
     let mut id = [0u8; 16];
     let mut randomizer = [0u8; 32];
-    figures::decode(record::line(all), &mut seed);
-    figures::decode(record::line(record::after_line(all)), &mut id);
-    figures::decode(
-        record::line(record::after_line(record::after_line(all))),
-        &mut randomizer,
-    );
+    record::fields(key_path, &mut seed, &mut id, &mut randomizer);
     let mut message = [0u8; 256];
     let m = message_of(path, &mut message);
     let mut nodes = io::large_buffer();
@@ -115,11 +107,7 @@ fn refusals(
 
 // The text of a record, and its length.
 fn message_of(path: &[u8], message: &mut [u8]) -> usize {
-    let mut text = [0u8; 8192];
-    let n = record::read(path, &mut text);
-    let all = bytes::front(&text, n);
-    figures::decode(
-        record::line(record::after_line(record::after_line(all))),
-        message,
-    )
+    let mut key = [0u8; 56];
+    let mut signature = [0u8; 2508];
+    record::fields(path, &mut key, &mut signature, message).third
 }

@@ -11,15 +11,12 @@ use programs::print;
 use sha256::bytes;
 
 fn main() {
-    let mut memory = key::memory();
-    let keys: &mut [u8] = &mut memory;
-    key::make(1, keys);
-    key::make(2, keys);
+    let keys = key::of_two();
     let mut places = io::large_buffer();
     let world: &mut [u8] = &mut places;
-    setup(keys);
-    honest_run(world, keys);
-    refused::requests(world, keys);
+    setup(&keys);
+    honest_run(world, &keys);
+    refused::requests(world, &keys);
     world::print_servers(world);
 }
 

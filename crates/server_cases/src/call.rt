@@ -1,8 +1,8 @@
 // One call of the server on a place of 8,192 bytes.
 ghost use mathlib.Core.Path.{_≡_};
 ghost use lib.ListN.{length};
+use c_layout::serving::Served;
 use exchange::server_place;
-use lent_bytes::serving::Served;
 use programs::line;
 use programs::print;
 use sha256::bytes;

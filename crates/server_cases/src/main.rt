@@ -11,13 +11,10 @@ use programs::key;
 use sha256::bytes;
 
 fn main() {
-    let mut memory = key::memory();
-    let keys: &mut [u8] = &mut memory;
-    key::make(1, keys);
-    key::make(2, keys);
+    let keys = key::of_two();
     let mut text = io::large_buffer();
     let n = file::read(&mut text);
-    rows(bytes::front(&text, n), keys);
+    rows(bytes::front(&text, n), &keys);
 }
 
 // The calls of all lines, one after the other, on eight servers that begin with nothing reserved and nothing stored.

@@ -1,4 +1,4 @@
-// A file of messages: a line for each, with its name, a space and the message in hexadecimal figures.
+// A file of messages: a line for each, with its name, a space and the message in hexadecimal digits.
 ghost use Prim.Native.Nat.{_≤_};
 ghost use lib.ListN.{length};
 use crate::parts;
@@ -55,9 +55,9 @@ fn lines(text: &[u8]) -> usize
 fn line(text: &[u8]) {
     let n = find(text, 0, b' ');
     let name = bytes::front(text, n);
-    let figures = bytes::from(bytes::from(text, n), 1);
+    let digits = bytes::from(bytes::from(text, n), 1);
     let mut space = [0u8; 6400];
-    let length = figures::decode(figures, &mut space);
+    let length = hex::decode(digits, &mut space);
     let message = bytes::front(&space, length);
     report::text(name);
     report::digest(sha256::hash(message));

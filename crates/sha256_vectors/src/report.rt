@@ -16,7 +16,7 @@ pub fn part(mark: &[u8], s: &[u8]) {
     number(s.len());
 }
 
-// The digest in hexadecimal figures, and the end of the line.
+// The digest in hexadecimal digits, and the end of the line.
 pub fn digest(d: [u8; 32]) {
     text(b" ");
     let mut i = 0;

@@ -21,7 +21,7 @@ pub fn show(g: Group, own: u8, world: &mut [u8], keys: &[u8]) {
     }
     let mut marks = [0u32; 512];
     let standing: &mut [u32] = &mut marks;
-    standing::board(targets, standing);
+    entry_board::board(targets, standing);
     print(g, own, n, world, keys, standing);
 }
 

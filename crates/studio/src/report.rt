@@ -1,9 +1,9 @@
 // What is printed.
 use crate::group::Group;
 use crate::kiln;
+use c_layout::using::SettledAnswer;
 use exchange::user_place;
 use firing::entry;
-use lent_bytes::using::SettledAnswer;
 use programs::print;
 use programs::sentence;
 use script::Command;
@@ -25,28 +25,14 @@ pub fn echo(line: &[u8]) {
 }
 
 // Says what is wrong with a line, and whether anything is.
-pub fn fault(at: usize, c: Command, servers: u8) -> bool {
-    let word = c.word;
+pub fn fault(at: usize, c: Command) -> bool {
     let what = c.fault;
     match what {
         Fault::Nothing => {
             return false;
         }
         Fault::UnknownWord => said(at, b"no such command"),
-        Fault::FirstNumber => range(
-            at,
-            b"the first number is missing or not in ",
-            script::first_least(word),
-            script::first_most(word, servers),
-        ),
-        Fault::SecondNumber => range(
-            at,
-            b"the second number is missing or not in ",
-            script::second_least(word),
-            script::second_most(word),
-        ),
-        Fault::ThirdNumber => said(at, b"the third number is missing or not in 0 .. 65535"),
-        Fault::FourthNumber => said(at, b"the fourth number is missing or not in 0 .. 65535"),
+        Fault::Number(which, least, most) => range(at, which, least, most),
         Fault::TextLength => said(at, b"the text is missing or longer than 1023 bytes"),
         Fault::Rate => said(at, b"a rate is missing or not in -32768 .. 32767"),
         Fault::Target => said(at, b"a target is missing or not in 0 .. 65535"),
@@ -64,13 +50,23 @@ fn said(at: usize, what: &[u8]) {
     print::text(b"\n");
 }
 
-fn range(at: usize, what: &[u8], least: u32, most: u32) {
+// That a number of a line is missing or out of its range.
+fn range(at: usize, which: u8, least: u32, most: u32) {
     print::number(b"  line ", at);
-    print::text(b": ");
-    print::text(what);
-    print::number(b"", least as usize);
+    print::text(b": the ");
+    ordinal(which);
+    print::number(b" number is missing or not in ", least as usize);
     print::number(b" .. ", most as usize);
     print::text(b"\n");
+}
+
+fn ordinal(which: u8) {
+    match which {
+        1 => print::text(b"first"),
+        2 => print::text(b"second"),
+        3 => print::text(b"third"),
+        _ => print::text(b"fourth"),
+    }
 }
 
 // A new log.

@@ -21,7 +21,7 @@ pub fn line(line: &[u8], number: usize, g: Group, world: &mut [u8], keys: &[u8])
     report::echo(line);
     let text = bytes::from(line, lines::skip_blanks(line, 0));
     let c = script::parse(text, g.servers);
-    if report::fault(number, c, g.servers) {
+    if report::fault(number, c) {
         return g;
     }
     let word = c.word;
@@ -50,10 +50,7 @@ fn act(c: Command, line: &[u8], g: Group, world: &mut [u8], keys: &[u8]) {
     let word = c.word;
     match word {
         Word::Update => update(g, own, world, keys),
-        Word::Read => read(c, rest, g, world, keys),
-        Word::Report => read(c, rest, g, world, keys),
-        Word::Warm => read(c, rest, g, world, keys),
-        Word::Begin => read(c, rest, g, world, keys),
+        Word::Read | Word::Report | Word::Warm | Word::Begin => read(c, rest, g, world, keys),
         Word::Board => board::show(g, own, world, keys),
         Word::Settled => settled(g, own, c.second, world, keys),
         Word::Strike => strike(g, own, c.second, world, keys),

@@ -7,7 +7,8 @@ use Rattle.user_cases.proofs.row.answers.Statement.{statement}
 use Rattle.user_cases.proofs.row.answers.Tie as tie
 
 abbrev Inv-loop : tie.InvT-loop
-Inv-loop f most place₀ servers₀ keys taken₀ place servers taken = (taken ≤ most) × ((length place ≡ length place₀) × (length servers ≡ length servers₀))
+Inv-loop f most place₀ servers₀ keys taken₀ place servers taken =
+    (taken ≤ most) × ((length place ≡ length place₀) × (length servers ≡ length servers₀))
 
 abbrev μ-loop : tie.MeasureT-loop
 μ-loop f most place₀ servers₀ keys taken₀ place servers taken = most - taken
