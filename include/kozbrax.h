@@ -257,9 +257,9 @@ kozbrax_served kozbrax_server(uint32_t servers, uint32_t own, const uint8_t *log
    path, KOZBRAX_PATH (672) bytes, and signature, KOZBRAX_SIGNATURE (2,508): of an open write
    call, KOZBRAX_CALL (82) bytes; the bytes that a kind does not name keep their contents:
      kind (1 at 0): 1 Update, 2 Write, 3 Read
-     Update and Write: asked (1 at 1), greatest (4 at 2), least (4 at 6), position (4 at 10), digest (32 at 14)
-     Write as well: opened (1 at 46), asked (1 at 47), randomizer (32 at 48), length (2 at 80)
-     Read: position (4 at 1), asked (1 at 5), length (2 at 6)
+     Update and Write: answers (1 at 1), greatest (4 at 2), least (4 at 6), position (4 at 10), digest (32 at 14)
+     Write as well: opened (1 at 46), answers (1 at 47), randomizer (32 at 48), length (2 at 80)
+     Read: position (4 at 1), answers (1 at 5), length (2 at 6)
    hashes, KOZBRAX_HASHES (1,248) bytes, and held, KOZBRAX_HELD (1,026): the call's memory, with any contents at its start
 
    log has 16 bytes; users are the users' public keys, 56 bytes each. own is the user's number, from 1. Every function returns 22 where
