@@ -67,7 +67,12 @@ answer-requires : tie.Need-answer-requires
 answer-requires c κs = search needs
 
 same-length : tie.Need-same-length
-same-length c = omega (arith, c .before .before .before .before .before .before .before .before .before .before .before .before .before .before .before .before .before .before .before .before .before .before .before .before .before .generate .kept .1 .1 .0)
+same-length c =
+    let generate-kept-1-1-0
+    =
+    c .before .before .before .before .before .before .before .before .before .before .before .before .before .before .before .before
+    .before .before .before .before .before .before .before .before .before .generate .kept .1 .1 .0 in
+    omega (arith, generate-kept-1-1-0)
 
 returns : tie.Need-returns
 returns c = search needs
