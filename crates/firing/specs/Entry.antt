@@ -16,8 +16,7 @@ isSchedule entry = eqb (getD entry 0 0) 3
 
 -- 19's shape: "entry length 0 or over 1,024, bad first byte or strike length"
 unfoldable pub entryFits : List ℕ → Bool
-entryFits entry =
-    leb 1 (length entry) && (leb (length entry) 1024 && (eqb (getD entry 0 0) 1 || (strikes entry || isSchedule entry)))
+entryFits entry = leb 1 (length entry) && (leb (length entry) 1024 && (eqb (getD entry 0 0) 1 || (strikes entry || isSchedule entry)))
 
 -- The position that an entry strikes, which is what the board's list of targets has for it: "0 for an insertion". Document 02, d: "On the
 -- board such an entry counts as an insertion."

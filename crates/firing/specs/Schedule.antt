@@ -34,8 +34,7 @@ unfoldable pub segments : List ℕ → List Segment
 segments entry = segmentsIn (segmentCount entry) (drop 2 entry)
 
 unfoldable pub laidOut : List ℕ → Bool
-laidOut entry =
-    isSchedule entry && (leb 1 (segmentCount entry) && (leb (segmentCount entry) 16 && eqb (length entry) (2 + 6 * segmentCount entry)))
+laidOut entry = let n = segmentCount entry in isSchedule entry && (leb 1 n && (leb n 16 && eqb (length entry) (2 + 6 * n)))
 
 -- "target minus the temperature before"
 unfoldable pub change : ℕ → Segment → ℤ
@@ -43,8 +42,7 @@ change before s = pos (s .target) -ℤ pos before
 
 -- Whether two numbers are both below 0, both above it, or both 0.
 unfoldable pub sameSign : ℤ → ℤ → Bool
-sameSign a b =
-    (ltZ a (pos 0) && ltZ b (pos 0)) || ((ltZ (pos 0) a && ltZ (pos 0) b) || (eqb (natAbs a) 0 && eqb (natAbs b) 0))
+sameSign a b = (ltZ a (pos 0) && ltZ b (pos 0)) || ((ltZ (pos 0) a && ltZ (pos 0) b) || (eqb (natAbs a) 0 && eqb (natAbs b) 0))
 
 -- "The rate has the sign of target minus the temperature before, and is 0 exactly if they are equal."
 unfoldable pub signFits : ℕ → Segment → Bool
@@ -67,8 +65,7 @@ roundedUp a b = (a + (b - 1)) / b
 -- "A segment lasts 60 × the difference over the rate's size, rounded up to whole minutes, plus the hold; one with rate 0 lasts its hold
 -- alone."
 unfoldable pub segmentMinutes : ℕ → Segment → ℕ
-segmentMinutes before s =
-    cond (eqb (natAbs (s .rate)) 0) (s .hold) (roundedUp (60 * natAbs (change before s)) (natAbs (s .rate)) + s .hold)
+segmentMinutes before s = cond (eqb (natAbs (s .rate)) 0) (s .hold) (roundedUp (60 * natAbs (change before s)) (natAbs (s .rate)) + s .hold)
 
 -- "The total of the segments and the peak, the highest target, are reported."
 unfoldable pub total : ℕ → List Segment → ℕ
@@ -100,7 +97,5 @@ unfoldable pub unreported : ℕ → Firing
 unreported code = record { code = code; minutes = 0; peak = 0 }
 
 unfoldable pub reported : List ℕ → Firing
-reported entry =
-    cond (eqb (reportCode entry) 0)
-    (record { code = 0; minutes = total start (segments entry); peak = peak (segments entry) })
-    (unreported (reportCode entry))
+reported entry = let firing : Firing = record { code = 0; minutes = total start (segments entry); peak = peak (segments entry) } in
+    cond (eqb (reportCode entry) 0) firing (unreported (reportCode entry))

@@ -24,8 +24,7 @@ startsFit first a b = leb a b && (leb a 1350 && (leb b 1350 && overStarts _&&_ (
 
 -- 32 comes "after 26, still judged from 20"; 19 and 26 are those of the schedule's report. The first segment stands after two bytes.
 unfoldable pub warmCode : List ℕ → ℕ → ℕ → ℕ
-warmCode entry a b =
-    cond (eqb (reportCode entry) 0) (cond (startsFit (segmentOf (drop 2 entry)) a b) 0 32) (reportCode entry)
+warmCode entry a b = cond (eqb (reportCode entry) 0) (cond (startsFit (segmentOf (drop 2 entry)) a b) 0 32) (reportCode entry)
 
 -- With a refusal, both are 0.
 unfoldable pub warmUnreported : ℕ → Totals
@@ -33,11 +32,6 @@ warmUnreported code = record { code = code; least = 0; greatest = 0 }
 
 -- "report the least and the greatest total time"
 unfoldable pub warmReported : List ℕ → ℕ → ℕ → Totals
-warmReported entry a b =
-    cond (eqb (warmCode entry a b) 0)
-    (record {
-      code = 0;
-      least = overStarts min (λ s. total s (segments entry)) a b;
-      greatest = overStarts max (λ s. total s (segments entry)) a b;
-    })
-    (warmUnreported (warmCode entry a b))
+warmReported entry a b = let least = overStarts min (λ s. total s (segments entry)) a b in
+    let greatest = overStarts max (λ s. total s (segments entry)) a b in
+    cond (eqb (warmCode entry a b) 0) (record { code = 0; least = least; greatest = greatest }) (warmUnreported (warmCode entry a b))

@@ -55,7 +55,5 @@ unfoldable pub digestCode : List ℕ → List ℕ → ℕ
 digestCode leaves out = cond (ltb (length out) 32) 21 (cond (leavesFit leaves) 0 24)
 
 unfoldable pub digestLeft : List ℕ → List ℕ → List ℕ
-digestLeft leaves out =
-    cond (eqb (digestCode leaves out) 0)
-    (written out 0 (value (tree (λ i. known (piece leaves i)) (lg (length leaves / 32)) 0 (length leaves / 32))))
-    out
+digestLeft leaves out = let count = length leaves / 32 in
+    cond (eqb (digestCode leaves out) 0) (written out 0 (value (tree (λ i. known (piece leaves i)) (lg count) 0 count))) out

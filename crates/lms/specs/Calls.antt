@@ -22,8 +22,7 @@ unfoldable pub publicKeyCode : Lms → List ℕ → List ℕ → ℕ
 publicKeyCode l tree key = cond (leb (treeSize (l .h)) (length tree) && leb 56 (length key)) 0 21
 
 unfoldable pub publicKeyWritten : Ots → Lms → List ℕ → List ℕ → List ℕ → List ℕ
-publicKeyWritten o l I tree key =
-    cond (eqb (publicKeyCode l tree key) 0) (written key 0 (publicKey o l I (nodeAt tree 1))) key
+publicKeyWritten o l I tree key = cond (eqb (publicKeyCode l tree key) 0) (written key 0 (publicKey o l I (nodeAt tree 1))) key
 
 -- 21 where tree or place is short, then, document 01: "17: signature number 1,024 reached".
 unfoldable pub signCode : Ots → Lms → ℕ → List ℕ → List ℕ → ℕ
@@ -32,5 +31,4 @@ signCode o l q tree place =
 
 -- Document 01: "the signature is written straight into its place"; what follows it stays.
 unfoldable pub signed : Ots → Lms → List ℕ → List ℕ → ℕ → List ℕ → List ℕ → List ℕ → List ℕ → List ℕ
-signed o l I SEED q C message tree place =
-    cond (eqb (signCode o l q tree place) 0) (written place 0 (signature o l I SEED q C message tree)) place
+signed o l I SEED q C m tree place = cond (eqb (signCode o l q tree place) 0) (written place 0 (signature o l I SEED q C m tree)) place

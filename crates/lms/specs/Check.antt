@@ -14,14 +14,12 @@ use Rattle.lms.specs.declared.Checked.{Checked}
 
 -- Algorithm 6a, step 4, one turn: the node above node_num, from tmp and path[i].
 unfoldable pub above : List ℕ → ℕ → List ℕ → List ℕ → List ℕ
-above I node_num tmp beside =
-    cond (eqb (node_num % 2) 1) (inner I (node_num / 2) beside tmp) (inner I (node_num / 2) tmp beside)
+above I node_num tmp beside = cond (eqb (node_num % 2) 1) (inner I (node_num / 2) beside tmp) (inner I (node_num / 2) tmp beside)
 
 -- Algorithm 6a, step 4: tmp after i turns, which halve node_num i times. From a node of height h, node_num > 1 holds for h turns.
 unfoldable pub climb : List ℕ → List ℕ → ℕ → List ℕ → ℕ → List ℕ
 climb I path node_num tmp zero = tmp
-climb I path node_num tmp (suc i) =
-    above I (node_num / 2 ^ i) (climb I path node_num tmp i) (take 32 (drop (32 * i) path))
+climb I path node_num tmp (suc i) = above I (node_num / 2 ^ i) (climb I path node_num tmp i) (take 32 (drop (32 * i) path))
 
 -- Algorithm 6a, steps 3 and 4: the candidate root Tc.
 unfoldable pub Tc : Ots → ℕ → List ℕ → ℕ → List ℕ → List ℕ → List ℕ → List ℕ → List ℕ
@@ -39,20 +37,17 @@ typePlace o = 8 + 32 * (o .p + 1)
 -- Algorithm 4b's own tests, its steps 1 and 2, are c and d again.
 unfoldable pub signatureFits : Ots → Lms → List ℕ → Bool
 signatureFits o l s =
-    eqb (length s) (signatureSize o l)
-    && (eqb (numberAt 4 s 4) (o .otstype) && (eqb (numberAt 4 s (typePlace o)) (l .lmstype) && ltb (numberAt 4 s 0) (2 ^ l .h)))
+    eqb (length s) (signatureSize o l) && (eqb (numberAt 4 s 4) (o .otstype)
+    && (eqb (numberAt 4 s (typePlace o)) (l .lmstype) && ltb (numberAt 4 s 0) (2 ^ l .h)))
 
 -- Algorithm 6, step 3: Tc from the parts of key and signature: I; q, C, y, path.
 unfoldable pub rootOf : Ots → Lms → List ℕ → List ℕ → List ℕ → List ℕ
-rootOf o l key message s =
-    Tc o (l .h) (take 16 (drop 8 key)) (numberAt 4 s 0) (take 32 (drop 8 s)) (drop 40 s) (drop (typePlace o + 4) s) message
+rootOf o l key m s = Tc o (l .h) (take 16 (drop 8 key)) (numberAt 4 s 0) (take 32 (drop 8 s)) (drop 40 s) (drop (typePlace o + 4) s) m
 
 -- Algorithm 6: VALID with the number q that was used, or INVALID.
 unfoldable pub checkOf : Ots → Lms → List ℕ → List ℕ → List ℕ → Checked
-checkOf o l key message s =
-    cond (keyFits o l key && (signatureFits o l s && eqs (rootOf o l key message s) (drop 24 key)))
-    (Checked.Number (numberAt 4 s 0))
-    Checked.No
+checkOf o l key message s = let valid = keyFits o l key && (signatureFits o l s && eqs (rootOf o l key message s) (drop 24 key)) in
+    cond valid (Checked.Number (numberAt 4 s 0)) Checked.No
 
 -- Whether an answer is VALID.
 abbrev pub isValid : Checked → Bool

@@ -55,8 +55,7 @@ opened o I SEED q Q i = chain (prefix I q i) 0 (digit o Q i) (secret I SEED q i)
 
 -- Section 4.5, Algorithm 3: u32str(type) || C || y[0] || .. || y[p-1]
 unfoldable pub otsSignature : Ots → List ℕ → List ℕ → ℕ → List ℕ → List ℕ → List ℕ
-otsSignature o I SEED q C message =
-    u32str (o .otstype) ++ C ++ cat (opened o I SEED q (textHash I q C message)) (o .p)
+otsSignature o I SEED q C message = u32str (o .otstype) ++ C ++ cat (opened o I SEED q (textHash I q C message)) (o .p)
 
 -- Section 4.6, Algorithm 4b: z[i], the chain run on from y[i] to its end; y holds y[0] || .. || y[p-1].
 unfoldable pub closed : Ots → List ℕ → ℕ → List ℕ → List ℕ → ℕ → List ℕ

@@ -22,8 +22,7 @@ path h tree q = cat (λ i. nodeAt tree (pathNode h q i)) h
 
 -- Section 5.4: u32str(q) || lmots_signature || u32str(type) || path[0] || .. || path[h-1]
 unfoldable pub signature : Ots → Lms → List ℕ → List ℕ → ℕ → List ℕ → List ℕ → List ℕ → List ℕ
-signature o l I SEED q C message tree =
-    u32str q ++ otsSignature o I SEED q C message ++ u32str (l .lmstype) ++ path (l .h) tree q
+signature o l I SEED q C message tree = u32str q ++ otsSignature o I SEED q C message ++ u32str (l .lmstype) ++ path (l .h) tree q
 
 -- Section 5.4: a signature's length, 12 + n * (p + 1) + m * h bytes.
 unfoldable pub signatureSize : Ots → Lms → ℕ

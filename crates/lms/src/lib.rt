@@ -2,7 +2,7 @@
 // the entry points fix LMS_SHA256_M32_H10 (type 6) with LMOTS_SHA256_N32_W4 (type 3).
 ghost use mathlib.Core.Path.{_≡_};
 ghost use Rattle.lms.specs.Types.{LMOTS_SHA256_N32_W4, LMS_SHA256_M32_H10};
-ghost use Rattle.lms.specs.Check.{checkOf};
+ghost use Rattle.lms.specs.Check.{checkOf, isValid as isValidOf};
 ghost use Rattle.lms.specs.Calls.{generateCode, generated, publicKeyCode, publicKeyWritten, signCode, signed};
 
 mod checking;
@@ -117,4 +117,14 @@ pub fn check(key: &[u8], text: &[u8], signature: &[u8]) -> Checked
     ensures { λ r. ⌜ r ≡ checkOf LMOTS_SHA256_N32_W4 LMS_SHA256_M32_H10 (now (key .entry)) (now (text .entry)) (now (signature .entry)) ⌝ }
 {
     checking::check(w4(), h10(), key, text, signature)
+}
+
+// Whether a check answered with a number.
+pub fn is_valid(answer: Checked) -> bool
+    ensures { λ r. ⌜ r ≡ isValidOf answer ⌝ }
+{
+    match answer {
+        Checked::No => false,
+        Checked::Number(_) => true,
+    }
 }

@@ -49,8 +49,7 @@ earliestStart windows m minutes = earliest windows minutes m week
 -- "33, m or the number of windows out of range, or a window empty, out of range, out of order or overlapping"; "34, exactly when no such
 -- start exists, last."
 unfoldable pub openingCode : List ℕ → ℕ → ℕ → ℕ
-openingCode windows m minutes =
-    cond (ltb m week && windowsFit windows) (cond (ltb (earliestStart windows m minutes) (m + week)) 0 34) 33
+openingCode windows m minutes = cond (ltb m week && windowsFit windows) (cond (ltb (earliestStart windows m minutes) (m + week)) 0 34) 33
 
 -- With a refusal, the start is 0.
 unfoldable pub noStart : ℕ → Start
@@ -58,12 +57,9 @@ noStart code = record { code = code; start = 0 }
 
 -- "answer the earliest start": the code, and where it is 0 the start.
 unfoldable pub opening : List ℕ → ℕ → ℕ → Start
-opening windows m minutes =
-    cond (eqb (openingCode windows m minutes) 0)
-    (record { code = 0; start = earliestStart windows m minutes })
-    (noStart (openingCode windows m minutes))
+opening windows m minutes = let code = openingCode windows m minutes in
+    cond (eqb code 0) (record { code = 0; start = earliestStart windows m minutes }) (noStart code)
 
 -- For a schedule, with the total that is reported of it as the length; 33 comes "after 26", so what refuses the report comes first.
 unfoldable pub scheduleOpening : List ℕ → List ℕ → ℕ → Start
-scheduleOpening entry windows m =
-    cond (eqb (reported entry .code) 0) (opening windows m (reported entry .minutes)) (noStart (reported entry .code))
+scheduleOpening entry windows m = let r = reported entry in cond (eqb (r .code) 0) (opening windows m (r .minutes)) (noStart (r .code))

@@ -25,13 +25,11 @@ T2 a b c = (Σ0 a + Maj a b c) % 2 ^ 32
 
 -- Step 3: the working variables after one round, from a .. h.
 abbrev pub roundFrom : ℕ → ℕ → ℕ → ℕ → ℕ → ℕ → ℕ → ℕ → ℕ → ℕ → List ℕ
-roundFrom k w a b c d e f g h =
-    (T1 k w e f g h + T2 a b c) % 2 ^ 32 ∷ a ∷ b ∷ c ∷ (d + T1 k w e f g h) % 2 ^ 32 ∷ e ∷ f ∷ g ∷ []
+roundFrom k w a b c d e f g h = (T1 k w e f g h + T2 a b c) % 2 ^ 32 ∷ a ∷ b ∷ c ∷ (d + T1 k w e f g h) % 2 ^ 32 ∷ e ∷ f ∷ g ∷ []
 
 -- The same, from the list of the eight working variables.
 unfoldable pub round : ℕ → ℕ → List ℕ → List ℕ
-round k w v =
-    roundFrom k w (getD v 0 0) (getD v 1 0) (getD v 2 0) (getD v 3 0) (getD v 4 0) (getD v 5 0) (getD v 6 0) (getD v 7 0)
+round k w v = roundFrom k w (getD v 0 0) (getD v 1 0) (getD v 2 0) (getD v 3 0) (getD v 4 0) (getD v 5 0) (getD v 6 0) (getD v 7 0)
 
 -- Step 3: the working variables after the first t rounds, from the schedule w and the variables v.
 unfoldable pub rounds : ℕ → List ℕ → List ℕ → List ℕ
@@ -43,8 +41,7 @@ abbrev pub sumAt : List ℕ → List ℕ → ℕ → ℕ
 sumAt x y i = (getD x i 0 + getD y i 0) % 2 ^ 32
 
 unfoldable pub sums : List ℕ → List ℕ → List ℕ
-sums x y =
-    sumAt x y 0 ∷ sumAt x y 1 ∷ sumAt x y 2 ∷ sumAt x y 3 ∷ sumAt x y 4 ∷ sumAt x y 5 ∷ sumAt x y 6 ∷ sumAt x y 7 ∷ []
+sums x y = sumAt x y 0 ∷ sumAt x y 1 ∷ sumAt x y 2 ∷ sumAt x y 3 ∷ sumAt x y 4 ∷ sumAt x y 5 ∷ sumAt x y 6 ∷ sumAt x y 7 ∷ []
 
 -- Steps 1 to 4: H^(i) from H^(i-1), here h, and the words m of block i.
 unfoldable pub compress : List ℕ → List ℕ → List ℕ

@@ -59,45 +59,32 @@ same-length c = search needs
 returns-3 : tie.Need-returns-3
 unfolding publicKeyCode publicKeyWritten treeSize nodeAt
 returns-3 c =
+    let c8 = c .before .before .before .before .before .before .before .before in
+    let c16 = c8 .before .before .before .before .before .before .before .before in
+    let c24 = c16 .before .before .before .before .before .before .before .before in
     let put4 = c .before .before .put4 .ensures in
-    let the-good
-    =
-    c .before .before .before .before .before .before .before .before .before .before .before .before .before .before .before .before
-    .before .before .before .before .before .before .before .before .before .before .good in
-    let a
-    =
-    c .before .before .before .before .before .before .before .before .before .before .before .before .before .before .before
-    .before .before .before .before .before .before .before .before .before .before .before .args in
-    let the-be4
-    =
-    c .before .before .before .before .before .before .before .before .before .before .before .before .before .before .before
-    .before .before .before .before .before .be4 in
-    let the-put
-    =
-    c .before .before .before .before .before .before .before .before .before .before .before .before .before .before .before
-    .before .before .before .put in
-    let the-be42
-    = c .before .before .before .before .before .before .before .before .before .before .before .before .before .before .be42 in
-    let the-put2 = c .before .before .before .before .before .before .before .before .before .before .before .before .put2 in
+    let the-good = c24 .before .before .good in
+    let a = c24 .before .before .args in
+    let the-be4 = c16 .before .before .before .before .be4 in
+    let the-put = c16 .before .before .put in
+    let the-be42 = c8 .before .before .before .before .before .before .be42 in
+    let the-put2 = c8 .before .before .before .before .put2 in
     let the-put3 = c .before .before .before .before .before .before .before .put3 in
-    let the-if1
-    =
-    c .before .before .before .before .before .before .before .before .before .before .before .before .before .before .before
-    .before .before .before .before .before .before .before .before .if1 in
-    let the-if2
-    =
-    c .before .before .before .before .before .before .before .before .before .before .before .before .before .before .before
-    .before .before .before .before .before .before .before .if2 in
+    let the-if1 = c16 .before .before .before .before .before .before .before .if1 in
+    let the-if2 = c16 .before .before .before .before .before .before .if2 in
     let the-front = c .before .before .before .front in
     let top = ap length (the-front .ensures) ∙ length-take-le 32 (a .nodes .now) (omega (arith, the-if1 .left)) in
     let laid = public-key-laid LMOTS_SHA256_N32_W4 LMS_SHA256_M32_H10 (a .key .now) (a .t1) _ _ _ _ _ _ _ (the-good .0 .1 .0 .1) top
-    (the-if2 .left) (the-be4 .ensures) (the-put .ensures) (the-be42 .ensures) (the-put2 .ensures) (the-put3 .ensures) put4 in
-    rw (
-      le-leb 65504 (length (a .nodes .now)) (the-if1 .left),
+    (the-if2 .left) (the-be4 .ensures) (the-put .ensures) (the-be42 .ensures) (the-put2 .ensures) (the-put3 .ensures) put4 in rw (
+      le-leb
+          65504 (length (a .nodes .now)) (the-if1 .left),
       le-leb 56 (length (a .key .now)) (the-if2 .left),
       laid,
       the-front .ensures,
-    ) (refl, refl)
+    ) (
+      refl,
+      refl,
+    )
 
 pub public-key-spec : {M : Type 1} → statement M
 public-key-spec =

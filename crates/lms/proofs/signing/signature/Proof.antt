@@ -57,14 +57,13 @@ put-requires-3 c κs = search needs
 write-chains-requires : tie.Need-write-chains-requires
 unfolding signatureSize
 write-chains-requires c κs =
+    let c8 = c .before .before .before .before .before .before .before .before in
+    let c16 = c8 .before .before .before .before .before .before .before .before in
+    let c24 = c16 .before .before .before .before .before .before .before .before in
     let put3-kept-0 = c .before .before .before .put3 .kept .0 in
-    let the-put = c .before .before .before .before .before .before .before .before .before .before .before .before .before .before .put in
-    let the-put2 = c .before .before .before .before .before .before .before .before .put2 in
-    let the-pre
-    =
-    c .before .before .before .before .before .before .before .before .before .before .before .before .before .before .before
-    .before .before .before .before .before .before .before .before .before .pre in
-    (the-pre .0, omega (arith, the-pre .1 .1 .1 .1, the-put .kept .0, the-put2 .kept .0, put3-kept-0))
+    let the-put = c8 .before .before .before .before .before .before .put in
+    let the-put2 = c8 .put2 in
+    let the-pre = c24 .pre in (the-pre .0, omega (arith, the-pre .1 .1 .1 .1, the-put .kept .0, the-put2 .kept .0, put3-kept-0))
 
 be4-requires-3 : tie.Need-be4-requires-3
 be4-requires-3 c κs = search needs
@@ -77,32 +76,25 @@ put-requires-4 c κs = search needs
 
 add-write-path : tie.Need-add-write-path
 add-write-path c =
-    let the-pre
-    =
-    c .before .before .before .before .before .before .before .before .before .before .before .before .before .before .before .before
-    .before .before .before .before .before .before .before .before .before .before .before .before .before .before .before .before
-    .before .before .pre in
-    omega (arith, the-pre .0 .p-most)
+    let c8 = c .before .before .before .before .before .before .before .before in
+    let c16 = c8 .before .before .before .before .before .before .before .before in
+    let c24 = c16 .before .before .before .before .before .before .before .before in
+    let c32 = c24 .before .before .before .before .before .before .before .before in
+    let the-pre = c32 .before .before .pre in omega (arith, the-pre .0 .p-most)
 
 write-path-requires : tie.Need-write-path-requires
 unfolding signatureSize
 write-path-requires c κs =
+    let c8 = c .before .before .before .before .before .before .before .before in
+    let c16 = c8 .before .before .before .before .before .before .before .before in
+    let c24 = c16 .before .before .before .before .before .before .before .before in
+    let c32 = c24 .before .before .before .before .before .before .before .before in
     let put4-kept-0 = c .before .before .before .put4 .kept .0 in
-    let the-put
-    =
-    c .before .before .before .before .before .before .before .before .before .before .before .before .before .before .before .before
-    .before .before .before .before .before .before .before .before .put in
-    let the-put2
-    =
-    c .before .before .before .before .before .before .before .before .before .before .before .before .before .before .before
-    .before .before .before .put2 in
-    let the-put3 = c .before .before .before .before .before .before .before .before .before .before .before .before .before .put3 in
-    let the-write-chains = c .before .before .before .before .before .before .before .before .before .write-chains in
-    let the-pre
-    =
-    c .before .before .before .before .before .before .before .before .before .before .before .before .before .before .before
-    .before .before .before .before .before .before .before .before .before .before .before .before .before .before .before .before
-    .before .before .before .pre in (
+    let the-put = c24 .put in
+    let the-put2 = c16 .before .before .put2 in
+    let the-put3 = c8 .before .before .before .before .before .put3 in
+    let the-write-chains = c8 .before .write-chains in
+    let the-pre = c32 .before .before .pre in (
       the-pre .1 .0,
       (
         the-pre .1 .1 .0,
@@ -123,21 +115,14 @@ write-path-requires c κs =
 
 same-length : tie.Need-same-length
 same-length c =
+    let c8 = c .before .before .before .before .before .before .before .before in
+    let c16 = c8 .before .before .before .before .before .before .before .before in
+    let c24 = c16 .before .before .before .before .before .before .before .before in
     let write-path-kept-1-1-1-0 = c .before .before .write-path .kept .1 .1 .1 .0 in
-    let the-put
-    =
-    c .before .before .before .before .before .before .before .before .before .before .before .before .before .before .before .before
-    .before .before .before .before .before .before .before .before .before .before .before .put in
-    let the-put2
-    =
-    c .before .before .before .before .before .before .before .before .before .before .before .before .before .before .before
-    .before .before .before .before .before .before .put2 in
-    let the-put3
-    =
-    c .before .before .before .before .before .before .before .before .before .before .before .before .before .before .before
-    .before .put3 in
-    let the-write-chains
-    = c .before .before .before .before .before .before .before .before .before .before .before .before .write-chains in
+    let the-put = c24 .before .before .before .put in
+    let the-put2 = c16 .before .before .before .before .before .put2 in
+    let the-put3 = c16 .put3 in
+    let the-write-chains = c8 .before .before .before .before .write-chains in
     let the-put4 = c .before .before .before .before .before .before .put4 in
     omega (
       arith,
@@ -152,60 +137,32 @@ same-length c =
 returns : tie.Need-returns
 unfolding signature otsSignature signatureSize
 returns c =
+    let c8 = c .before .before .before .before .before .before .before .before in
+    let c16 = c8 .before .before .before .before .before .before .before .before in
+    let c24 = c16 .before .before .before .before .before .before .before .before in
+    let c32 = c24 .before .before .before .before .before .before .before .before in
     let write-path = c .before .before .write-path .ensures in
-    let a
-    =
-    c .before .before .before .before .before .before .before .before .before .before .before .before .before .before .before .before
-    .before .before .before .before .before .before .before .before .before .before .before .before .before .before .before .before
-    .before .before .before .before .before .args in
-    let the-good
-    =
-    c .before .before .before .before .before .before .before .before .before .before .before .before .before .before .before
-    .before .before .before .before .before .before .before .before .before .before .before .before .before .before .before .before
-    .before .before .before .before .before .before .good in
-    let the-text-hash
-    =
-    c .before .before .before .before .before .before .before .before .before .before .before .before .before .before .before
-    .before .before .before .before .before .before .before .before .before .before .before .before .before .before .before .before
-    .text-hash in
-    let the-be4
-    =
-    c .before .before .before .before .before .before .before .before .before .before .before .before .before .before .before
-    .before .before .before .before .before .before .before .before .before .before .before .before .before .before .be4 in
-    let the-put
-    =
-    c .before .before .before .before .before .before .before .before .before .before .before .before .before .before .before
-    .before .before .before .before .before .before .before .before .before .before .before .before .put in
-    let the-be42
-    =
-    c .before .before .before .before .before .before .before .before .before .before .before .before .before .before .before
-    .before .before .before .before .before .before .before .before .be42 in
-    let the-put2
-    =
-    c .before .before .before .before .before .before .before .before .before .before .before .before .before .before .before
-    .before .before .before .before .before .before .put2 in
-    let the-put3
-    =
-    c .before .before .before .before .before .before .before .before .before .before .before .before .before .before .before
-    .before .put3 in
-    let the-write-chains
-    = c .before .before .before .before .before .before .before .before .before .before .before .before .write-chains in
-    let the-be43 = c .before .before .before .before .before .before .before .before .be43 in
+    let a = c32 .before .before .before .before .before .args in
+    let the-good = c32 .before .before .before .before .before .good in
+    let the-text-hash = c24 .before .before .before .before .before .before .before .text-hash in
+    let the-be4 = c24 .before .before .before .before .before .be4 in
+    let the-put = c24 .before .before .before .put in
+    let the-be42 = c16 .before .before .before .before .before .before .before .be42 in
+    let the-put2 = c16 .before .before .before .before .before .put2 in
+    let the-put3 = c16 .put3 in
+    let the-write-chains = c8 .before .before .before .before .write-chains in
+    let the-be43 = c8 .be43 in
     let the-put4 = c .before .before .before .before .before .before .put4 in
-    let the-pre
-    =
-    c .before .before .before .before .before .before .before .before .before .before .before .before .before .before .before
-    .before .before .before .before .before .before .before .before .before .before .before .before .before .before .before .before
-    .before .before .before .before .before .before .pre in
+    let the-pre = c32 .before .before .before .before .before .pre in
     let y = opened (a .o) (a .id) (bytes (a .seed)) (a .q) (textHash (a .id) (a .q) (a .t6) (a .text .now)) in
-    let ly : length (cat y (a .o .p)) ≡ 32 * a .o .p = cat-length y (a .o .p)
-    (λ i _. opened-length (a .o) (a .id) (bytes (a .seed)) (a .q) _ i) (a .o .p) (omega arith) in
+    let ly : length (cat y (a .o .p)) ≡ 32 * a .o .p = cat-length y (a .o .p) (λ i _. opened-length (a .o) (a .id) (bytes (a .seed)) (a
+    .q) _ i) (a .o .p) (omega arith) in
     let lp = path-length (a .l .h) (a .q) (the-pre .1 .1 .0) (a .tree .now) (the-pre .1 .1 .1 .0) in
-    signature-laid (a .place .now) (u32str (a .q)) (u32str (a .o .otstype)) (a .t6) (cat y (a .o .p)) (u32str (a .l .lmstype))
-    (path (a .l .h) (a .tree .now) (a .q)) _ _ _ _ _ _ (40 + 32 * a .o .p) (be-length 4 (a .q)) (be-length 4 (a .o .otstype))
-    (the-good .1 .1 .1 .1 .1 .0 .1 .0 .1) (be-length 4 (a .l .lmstype)) (omega (arith, ly)) (omega (arith, lp, the-pre .1 .1 .1 .1))
-    (the-put .ensures ∙ rw (the-be4 .ensures)) (the-put2 .ensures ∙ rw (the-be42 .ensures)) (the-put3 .ensures)
-    (the-write-chains .ensures ∙ rw (the-text-hash .ensures)) (the-put4 .ensures ∙ rw (the-be43 .ensures)) write-path
+    signature-laid (a .place .now) (u32str (a .q)) (u32str (a .o .otstype)) (a .t6) (cat y (a .o .p)) (u32str (a .l .lmstype)) (path (a .l
+    .h) (a .tree .now) (a .q)) _ _ _ _ _ _ (40 + 32 * a .o .p) (be-length 4 (a .q)) (be-length 4 (a .o .otstype)) (the-good .1 .1 .1 .1 .1
+    .0 .1 .0 .1) (be-length 4 (a .l .lmstype)) (omega (arith, ly)) (omega (arith, lp, the-pre .1 .1 .1 .1)) (the-put .ensures ∙ rw
+    (the-be4 .ensures)) (the-put2 .ensures ∙ rw (the-be42 .ensures)) (the-put3 .ensures) (the-write-chains .ensures ∙ rw (the-text-hash
+    .ensures)) (the-put4 .ensures ∙ rw (the-be43 .ensures)) write-path
 
 pub signature-spec : {M : Type 1} → statement M
 signature-spec =
