@@ -25,7 +25,7 @@ unfolding markOf
 mark-fits true = refl
 mark-fits false = refl
 
-mark-read : (b : Bool) → eqb (markOf b) 1 ≡ b
+pub mark-read : (b : Bool) → eqb (markOf b) 1 ≡ b
 unfolding markOf
 mark-read true = refl
 mark-read false = refl
