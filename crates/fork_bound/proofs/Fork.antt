@@ -12,14 +12,14 @@ use Rattle.tree.proofs.Labels.{every-server-owns-a-node}
 use Rattle.user_read.specs.Read.{textAuthor, textEntry}
 use Rattle.whole_run.specs.World.{Setup}
 use Rattle.whole_run.specs.Runs.{NewWorld, World, Step, run, Fair}
-use Rattle.fork_bound.specs.Claim.{NoneCollide, NoneForged, HasRead, Differ, Bounded, ForkBound, ViewIsVersion}
+use Rattle.fork_bound.specs.Claim.{NoneCollide, NoneForged, HasRead, Differ, Bounded, BoundHolds, ForkBound, ViewIsVersion}
 use Rattle.fork_bound.proofs.Noted.{Whole, Hashed}
 use Rattle.fork_bound.proofs.Histories.{Knows, Known, established-agree, all-known}
 use Rattle.fork_bound.proofs.States.{ReadOk}
 use Rattle.fork_bound.proofs.Steps.{Holds, all-hold}
 use Rattle.fork_bound.proofs.Heads.{one-digest-at-H}
 
-module _ (g : Setup) (named : length (g .log) ≡ 16) (start : NewWorld) (xs : List Step) (fair : Fair g start xs) where
+module _ (g : Setup) (named : length (g .log) ≡ 16) (start : NewWorld) (xs : List Step) (fair : Fair g (run g start) xs) where
   abbrev w : World
   w = run g start xs
 
@@ -84,19 +84,18 @@ module _ (g : Setup) (named : length (g .log) ≡ 16) (start : NewWorld) (xs : L
           let tb = read-b .true-read (q .0) (q .1) (q .2) in
           differ (sym (ta .0) ∙ ap textAuthor same ∙ tb .0, sym (ta .1) ∙ ap textEntry same ∙ tb .1)
 
-      bounded : (min va vb - d + 1 ≤ wait d (g .servers)) × (wait d (g .servers) ≡ 0 → ⊥)
+      bounded : Bounded g (run g start xs) a b d
+      unfolding Bounded
       bounded =
           let ia = read-ok a x e ra .within in
           let ib = read-ok b y f rb .within in
-          cases-le (d + wait d (g .servers)) (min va vb) (λ h. absurd (not-beyond h)) (λ h. (omega arith, λ z. omega arith))
+          rw (holds .users a .seen, holds .users b .seen)
+          (cases-le (d + wait d (g .servers)) (min va vb) (λ h. absurd (not-beyond h)) (λ h. (omega arith, λ z. omega arith)))
 
 pub view-is-version : ViewIsVersion
 unfolding ViewIsVersion
 view-is-version g named start xs fair a = holds g named start xs fair .users a .seen
 
 pub fork-bound : ForkBound
-unfolding ForkBound NoneCollide Bounded ViewIsVersion
-fork-bound g named H-some H-one start xs fair free owned a b d x y e f ra rb differ =
-    let va = view-is-version g named start xs fair a in
-    let vb = view-is-version g named start xs fair b in
-    rw (va, vb) (bounded g named start xs fair free owned H-some H-one a b d x y e f ra rb differ)
+unfolding ForkBound BoundHolds NoneCollide
+fork-bound g named H-some H-one start xs fair free owned = bounded g named start xs fair free owned H-some H-one

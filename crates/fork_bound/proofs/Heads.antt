@@ -24,8 +24,8 @@ use Rattle.server.specs.Serve.{headAfter, headerGiven, answerGiven, ServeOutcom
 use Rattle.server.proofs.Served.{code, served-passed, served-refused}
 use Rattle.server.proofs.Theorems.{refusal-keeps-all, head-changes-only-by-reserve, position-never-falls, one-digest-a-position}
 use Rattle.server.proofs.After.{accepted-setup, accepted-code, accepted-fits}
-use Rattle.whole_run.specs.World.{answered}
-use Rattle.whole_run.specs.Runs.{World, NewWorld, newHead, newWorld, withServer, serverEvents}
+use Rattle.whole_run.specs.World.{Setup, answered}
+use Rattle.whole_run.specs.Runs.{World, NewWorld, newHead, newServer, newWorld, serverAfter, withServer, serverEvents}
 use Rattle.whole_run.proofs.Answers.{all-given}
 
 -- the tenth byte of an answer is its code, whatever the other fields are
@@ -96,7 +96,7 @@ module _ (s : Settings) (h : Head) (store : List ℕ) (used : ℕ) (q buffer : L
       rw p (sym c ∙ (rw (all-given s h store used q buffer z) at e))
 
   -- a call notes its answer, if it gives one
-  noted : (r x : List ℕ) → List·Memᴰ (answered r x) (serverEvents q after)
+  noted : (r x : List ℕ) → List·Memᴰ (answered r x) (serverEvents q (after .out .answered) (after .answer))
       → (r ≡ q) × (x ≡ take (after .out .answered) (after .answer)) × (after .out .answered ≡ 0 → ⊥)
   unfolding serverEvents
   noted r x m =
@@ -106,8 +106,8 @@ module _ (s : Settings) (h : Head) (store : List ℕ) (used : ℕ) (q buffer : L
       (λ n i. elim (List·Memᴰ·cases-cons i) [ inl e ↦ (cc, cc, n) | inr j ↦ absurd (List·Memᴰ·not-nil j) ])
       m
 
-  noted-accepts : (r x : List ℕ) → List·Memᴰ (answered r x) (serverEvents q after) → requestKind r ≡ 5 → answerCode x ≡ 0
-      → (r ≡ q) × (after .out .code ≡ 0)
+  noted-accepts : (r x : List ℕ) → List·Memᴰ (answered r x) (serverEvents q (after .out .answered) (after .answer))
+      → requestKind r ≡ 5 → answerCode x ≡ 0 → (r ≡ q) × (after .out .code ≡ 0)
   unfolding refusedSetup
   noted-accepts r x m k e =
       let n = noted r x m in
@@ -131,12 +131,12 @@ Accepted w q = (x : List ℕ) × List·Memᴰ (answered q x) (w .log) × (reques
 
 -- H's head is past every Reserve that it accepted, and for one position they have one digest
 pub record Logged (w : World) : Type 0 where
-  pub whole : length (w .head .digest) ≡ 32
-  pub past : (q : List ℕ) → Accepted w q → Past (requestPosition q) (requestBody q) (w .head)
+  pub whole : length (w .server .head .digest) ≡ 32
+  pub past : (q : List ℕ) → Accepted w q → Past (requestPosition q) (requestBody q) (w .server .head)
   pub same : (q r : List ℕ) → Accepted w q → Accepted w r → requestPosition q ≡ requestPosition r → requestBody q ≡ requestBody r
 
 -- steps of users: H's head stays, and no answer of H's is new
-pub logged-later : (w x : World) → x .head ≡ w .head → ((q a : List ℕ) → List·Memᴰ (answered q a) (x .log) → List·Memᴰ (answered q a) (w .log))
+pub logged-later : (w x : World) → x .server .head ≡ w .server .head → ((q a : List ℕ) → List·Memᴰ (answered q a) (x .log) → List·Memᴰ (answered q a) (w .log))
     → Logged w → Logged x
 logged-later w x e old k =
     record {
@@ -148,11 +148,11 @@ logged-later w x e old k =
     before : (q : List ℕ) → Accepted x q → Accepted w q
     before q y = (y .0, old q (y .0) (y .1), y .2, y .3)
 
-pub logged-server : (w : World) (s : Settings) (q buffer : List ℕ) → Logged w → Logged (withServer w q (served s (w .head) (w .store) (w .used) q buffer))
-unfolding withServer
+pub logged-server : (w : World) (s : Settings) (q buffer : List ℕ) → Logged w → Logged (withServer w q (served s (w .server .head) (w .server .store) (w .server .used) q buffer))
+unfolding withServer serverAfter
 logged-server w s q buffer k =
     record {
-      whole = digest-stays-whole s (w .head) (w .store) (w .used) q buffer (k .whole);
+      whole = digest-stays-whole s (w .server .head) (w .server .store) (w .server .used) q buffer (k .whole);
       past = past;
       same = λ r t y z e. elim (split r y) [
         | inl m ↦ sym (m .1) ∙ past t z .stay (m .0 ∙ e)
@@ -161,30 +161,30 @@ logged-server w s q buffer k =
     }
   where
     call : ServeOutcome
-    call = served s (w .head) (w .store) (w .used) q buffer
+    call = served s (w .server .head) (w .server .store) (w .server .used) q buffer
 
     next : World
     next = withServer w q call
 
     -- an accepted Reserve is the head now, or was accepted before
-    split : (r : List ℕ) → Accepted next r → ((next .head .position ≡ requestPosition r) × (next .head .digest ≡ requestBody r)) ⊎ Accepted w r
-    split r y = elim (List·Memᴰ·append-cases (serverEvents q call) (y .1)) [
-      | inl m ↦ (let n = noted-accepts s (w .head) (w .store) (w .used) q buffer r (y .0) m (y .2) (y .3) in
-          inl (rw (n .0) (reserved-head s (w .head) (w .store) (w .used) q buffer (n .1) (rw (n .0) at (y .2)))))
+    split : (r : List ℕ) → Accepted next r → ((next .server .head .position ≡ requestPosition r) × (next .server .head .digest ≡ requestBody r)) ⊎ Accepted w r
+    split r y = elim (List·Memᴰ·append-cases (serverEvents q (call .out .answered) (call .answer)) (y .1)) [
+      | inl m ↦ (let n = noted-accepts s (w .server .head) (w .server .store) (w .server .used) q buffer r (y .0) m (y .2) (y .3) in
+          inl (rw (n .0) (reserved-head s (w .server .head) (w .server .store) (w .server .used) q buffer (n .1) (rw (n .0) at (y .2)))))
       | inr m ↦ inr (y .0, m, y .2, y .3)
     ]
 
-    past : (r : List ℕ) → Accepted next r → Past (requestPosition r) (requestBody r) (next .head)
+    past : (r : List ℕ) → Accepted next r → Past (requestPosition r) (requestBody r) (next .server .head)
     past r y = elim (split r y) [
       | inl m ↦ record { up = omega (arith, m .0); stay = λ _. m .1 }
-      | inr m ↦ past-stays s (w .head) (w .store) (w .used) q buffer (requestPosition r) (requestBody r) (k .whole) (k .past r m)
+      | inr m ↦ past-stays s (w .server .head) (w .server .store) (w .server .used) q buffer (requestPosition r) (requestBody r) (k .whole) (k .past r m)
     ]
 
-pub logged-first : (b : NewWorld) → Logged (newWorld b)
-unfolding newWorld newHead
-logged-first b =
+pub logged-first : (g : Setup) (b : NewWorld) → Logged (newWorld g b)
+unfolding newWorld newServer newHead
+logged-first g b =
     record {
-      whole = b .server .digest-size;
+      whole = b .servers (g .follows) .digest-size;
       past = λ q y. absurd (List·Memᴰ·not-nil (y .1));
       same = λ q r y z e. absurd (List·Memᴰ·not-nil (y .1));
     }

@@ -1,13 +1,13 @@
 -- A whole list of steps, what is noted of it, and events among them.
-use mathlib.Core.Path.{_≡_, refl, ap}
+use mathlib.Core.Path.{_≡_, refl}
 use mathlib.Core.Bool.{Bool, true, false, cond}
-use mathlib.Core.List.{List, [], _∷_, _++_, List·Memᴰ, List·Memᴰ·head, List·Memᴰ·tail, List·Memᴰ·not-nil, List·Memᴰ·cases-cons, List·Memᴰ·append-cases, Memᴰ·append-left, Memᴰ·append-right}
+use mathlib.Core.List.{List, [], _∷_, _++_, map, List·Memᴰ, List·Memᴰ·not-nil, List·Memᴰ·cases-cons, List·Memᴰ·append-cases, Memᴰ·append-left, Memᴰ·append-right, Memᴰ·map}
 use mathlib.Core.Logic.{inl, inr}
 use Prim.Native.Nat.{ℕ}
 use lib.ListN.{length}
 use Rattle.tree.specs.Expr.{Expr, strings}
 use Rattle.tree.proofs.Agree.{AllIn, Sized, all-in}
-use Rattle.whole_run.specs.World.{Setup, Event, hashed, allHashed}
+use Rattle.whole_run.specs.World.{Setup, Event, hashed}
 use Rattle.whole_run.specs.Runs.{World}
 
 -- What every lemma speaks of: the group, whose log has a name of 16 bytes, and the world after the whole list, with all that is noted of it.
@@ -31,15 +31,9 @@ pub within-right : (W : Whole) (xs ys : List Event) → Within W (xs ++ ys) → 
 within-right W xs ys f e m = f e (Memᴰ·append-right xs m)
 
 -- what was hashed for an expression of which a step noted the strings
-hashed-in : (ss : List (List ℕ)) (s : List ℕ) → List·Memᴰ s ss → List·Memᴰ (hashed s) (allHashed ss)
-unfolding allHashed
-hashed-in [] s m = absurd (List·Memᴰ·not-nil m)
-hashed-in (t ∷ ss) s m =
-    elim (List·Memᴰ·cases-cons m) [ inl e ↦ List·Memᴰ·head (ap hashed e) | inr y ↦ List·Memᴰ·tail (hashed-in ss s y) ]
-
 pub all-hashed : (W : Whole) (e : Expr) (ss : List (List ℕ)) → Sized e → ((t : List ℕ) → List·Memᴰ t (strings e) → List·Memᴰ t ss)
-    → Within W (allHashed ss) → AllIn (Hashed W) e
-all-hashed W e ss z f h = all-in (Hashed W) e z (λ t m. h (hashed t) (hashed-in ss t (f t m)))
+    → Within W (map hashed ss) → AllIn (Hashed W) e
+all-hashed W e ss z f h = all-in (Hashed W) e z (λ t m. h (hashed t) (Memᴰ·map hashed (f t m)))
 
 -- what holds of each event of a list
 abbrev pub Every : (Event → Type 0) → List Event → Type 0
@@ -60,7 +54,6 @@ module _ (P : Event → Type 0) where
   every-cond true xs ys f g = f refl
   every-cond false xs ys f g = g refl
 
-  pub every-hashed : ((s : List ℕ) → P (hashed s)) → (ss : List (List ℕ)) → Every P (allHashed ss)
-  unfolding allHashed
+  pub every-hashed : ((s : List ℕ) → P (hashed s)) → (ss : List (List ℕ)) → Every P (map hashed ss)
   every-hashed h [] = every-none
-  every-hashed h (s ∷ ss) = every-cons (hashed s) (allHashed ss) (h s) (every-hashed h ss)
+  every-hashed h (s ∷ ss) = every-cons (hashed s) (map hashed ss) (h s) (every-hashed h ss)

@@ -1,7 +1,7 @@
 -- A Write starts with an Update, or resumes the open write; its Update goes on; and when that has ended, the write opens.
-use mathlib.Core.Path.{_≡_, refl, sym, _∙_}
+use mathlib.Core.Path.{_≡_, refl, sym, _∙_, subst}
 use mathlib.Core.Bool.{true, false}
-use mathlib.Core.List.{List, _++_, Memᴰ·append-left, Memᴰ·append-right}
+use mathlib.Core.List.{List, _++_, map, Memᴰ·append-left, Memᴰ·append-right}
 use Prim.Native.Nat.{ℕ, suc, _≤_}
 use native.Mathlib.Omega.{arith}
 use lib.Dec.{eqb}
@@ -31,12 +31,12 @@ use Rattle.user_update.proofs.UpdateAnswers.{arrives-at}
 use Rattle.user_write.proofs.WriteAnswers.{by-updating}
 use Rattle.user_write.proofs.WriteRules.{by-opening, openedLeft, commit-late}
 use Rattle.user_calls.specs.Calls.{writing, asCall}
-use Rattle.whole_run.specs.World.{settingsFor, allHashed, User, returned, viewAfter, newReads, after, coverStrings, openingHashed, writeSigned, writeAccepted, recordAccepted}
+use Rattle.whole_run.specs.World.{settingsFor, hashed, User, returned, viewAfter, newReads, after, coverStrings, recordAccepted, openingHashed, writeEvents}
 use Rattle.whole_run.proofs.Requests.{laid-length, entry-sizes, reserve-first}
 use Rattle.fork_bound.proofs.Noted.{Whole, Hashed, Within, within-left, within-right, all-hashed}
 use Rattle.fork_bound.proofs.States.{openPosition, UpdateOk, WriteOk, UserOk}
 use Rattle.fork_bound.proofs.UpdateSteps.{nextUpdate, collected, view-left, pulls, fresh-ok, next-ok, arrives}
-use Rattle.fork_bound.proofs.WriteSteps.{writeEvents, WriteKeeps, write-asks-ok}
+use Rattle.fork_bound.proofs.WriteSteps.{shut-events, WriteKeeps, write-asks-ok}
 
 module _ (W : Whole) (own : ℕ) (u : User) (ok : UserOk W own u) where
   abbrev s : Settings
@@ -101,21 +101,20 @@ module _ (W : Whole) (own : ℕ) (u : User) (ok : UserOk W own u) where
 
     module _ (t : Taken s (u .state) (u .lent) (w .update) a) where
       -- whether it asks for more or has ended
-      update-goes : (o : Outcome Write) → o .call .update ≡ next → o .step .code ≡ 0 → Within W (writeEvents s (σ .kept) w a o) → UpdateOk W v next
-      unfolding writeAccepted
-      update-goes o e z f =
-          let r = within-right W (writeSigned s (σ .kept) w o) (writeAccepted s w o a) (within-right W (openingHashed s v w o) _ f) in
-          let r′ : Within W (recordAccepted s (o .step) (w .update) next a) = rw (← e) (rw shut at r) in
-          next-ok W own σ (u .lent) (w .update) a t (i .waits shut) (o .step) z r′
+      update-goes : (o : Outcome Write) → o .call .update ≡ next → Within W (writeEvents s (σ .kept) w a o) → UpdateOk W v next
+      update-goes o e f =
+          let g = subst (Within W) (shut-events s (σ .kept) w a o shut) f in
+          let r = within-right W (openingHashed s v w o) (recordAccepted s (w .update) (o .call .update) a) g in
+          next-ok W own σ (u .lent) (w .update) a t (i .waits shut) (rw e at r)
 
       goes-ok : Keeps (writeWaits σ w (goingOn s σ m next))
       unfolding writeWaits
       goes-ok z f =
-          waits-ok m w next (t .room) shut (i .short) (i .random) (update-goes (writeWaits σ w (goingOn s σ m next)) refl z f)
+          waits-ok m w next (t .room) shut (i .short) (i .random) (update-goes (writeWaits σ w (goingOn s σ m next)) refl f)
 
       -- the strings of the cover and of the path
       opening-hashed : (p : ℕ) (hs : List ℕ) (e : Expr) → Sized e
-          → Within W (allHashed (coverStrings v p hs ++ strings (coverPath v p hs e (lg (suc p)))))
+          → Within W (map hashed (coverStrings v p hs ++ strings (coverPath v p hs e (lg (suc p)))))
           → AllIn (Hashed W) (coverDigest v p hs) × AllIn (Hashed W) (coverPath v p hs e (lg (suc p)))
       unfolding coverStrings
       opening-hashed p hs e z f = (
@@ -141,14 +140,14 @@ module _ (W : Whole) (own : ℕ) (u : User) (ok : UserOk W own u) where
       hashed-now : Within W (openingHashed s v w left)
           → AllIn (Hashed W) (coverDigest v (K .version) (m .hashes)) × AllIn (Hashed W) (coverPath v (K .version) (m .hashes) entryLeaf (lg (suc (K .version))))
       unfolding openingHashed writeAsks asking opening heldEntry
-      hashed-now f = opening-hashed (K .version) (m .hashes) entryLeaf leaf-sized (rw shut at f)
+      hashed-now f = opening-hashed (K .version) (m .hashes) entryLeaf leaf-sized f
 
       opens-ok : updateEnded n v next ≡ true → suc (K .version) ≤ 1048576 → Keeps left
       unfolding opening ownLeaf pathDigest writeAsks
       opens-ok ends within z f =
-          let q = update-goes left refl z f in
+          let q = update-goes left refl f in
           let version = arrives-at s σ (u .lent) (w .update) a t ends in
-          let x = hashed-now (within-left W (openingHashed s v w left) _ f) in
+          let x = hashed-now (within-left W (openingHashed s v w left) _ (subst (Within W) (shut-events s (σ .kept) w a left shut) f)) in
           let r = arrives W own σ (u .lent) (w .update) a t (i .waits shut) q ends (rw version at (x .0)) (u .reads) (ok .state) in
           let up : v ≤ K .version = omega (arith, r .above, version) in
           let b : lg (suc (K .version)) ≤ 20 = lg-below (suc (K .version)) 20 (omega arith) in

@@ -21,7 +21,7 @@ use Rattle.user_read.specs.Read.{readChecks, freshRead, readAsks, readStarted, 
 use Rattle.user.proofs.Passed.{by-cond}
 use Rattle.user_read.proofs.ReadRules.{by-taken, next, collected, next-small, handed, held-small, read-given}
 use Rattle.user_calls.specs.Calls.{reading, asCall}
-use Rattle.whole_run.specs.World.{settingsFor, User, returned, viewAfter, newReads, after, readHashed}
+use Rattle.whole_run.specs.World.{settingsFor, User, returned, viewAfter, newReads, after, readEvents}
 use Rattle.fork_bound.proofs.Noted.{Whole, Hashed, Within, all-hashed}
 use Rattle.fork_bound.proofs.Histories.{Known}
 use Rattle.fork_bound.proofs.States.{ReadOk, UserOk}
@@ -35,7 +35,7 @@ module _ (W : Whole) (own : ℕ) (u : User) (ok : UserOk W own u) where
   s = settingsFor (W .group) own
 
   abbrev Keeps : Outcome Read → Type 0
-  Keeps o = o .step .code ≡ 0 → Within W (readHashed (u .state .kept .version) o) → UserOk W own (after u (asCall reading o))
+  Keeps o = o .step .code ≡ 0 → Within W (readEvents (u .state .kept .version) o) → UserOk W own (after u (asCall reading o))
 
   asks-ok : (m : Lent) (r : Read) → r .length ≤ 1026 → UserOk W own (after u (asCall reading (readAsks s (u .state) m r)))
   unfolding after readAsks asking returned viewAfter newReads
@@ -59,7 +59,7 @@ module _ (W : Whole) (own : ℕ) (u : User) (ok : UserOk W own u) where
 
   ends-ok : (m : Lent) (r : Read) → 1 ≤ r .position → r .position ≤ u .state .kept .version → r .length ≤ 1026 → 1024 ≤ length (m .entry)
       → readGives (u .state .kept) r (m .hashes) (m .held) ≡ true → Keeps (readEnds (u .state) m r)
-  unfolding after readEnds done returned viewAfter newReads readHashed
+  unfolding after readEnds done returned viewAfter newReads readEvents
   ends-ok m r some within small room e _ f =
       let k = u .state .kept in
       let i = ok .state in

@@ -6,12 +6,11 @@ use mathlib.Core.Logic.{inl, inr}
 use Prim.Native.Nat.{ℕ}
 use native.Mathlib.Omega.{arith}
 use lib.ListN.{take}
-use Rattle.tree.specs.Setup.{settings}
 use Rattle.tree.proofs.Cases.{by-eqb, not-both}
-use Rattle.server.specs.Serve.{ServeOutcome, served}
+use Rattle.server.specs.Serve.{served}
 use Rattle.user_calls.specs.Calls.{Input, startUpdate, startWrite, startRead, answer}
 use Rattle.whole_run.specs.World.{settingsFor, Event, signed, answered, User, userStep, dropped}
-use Rattle.whole_run.specs.Runs.{World, Step, user, drops, server, NewWorld, newUser, newWorld, withUser, withServer, serverEvents, step, run, FairInput, FairStep, Fair}
+use Rattle.whole_run.specs.Runs.{World, Step, user, drops, server, NewWorld, newUser, newWorld, withUser, withServer, serverEvents, step, run, FairInput, FairStep, Fair, serverAfter}
 use Rattle.fork_bound.proofs.Noted.{Whole, Within, within-left, within-right, Every, every-none}
 use Rattle.fork_bound.proofs.Histories.{Signed}
 use Rattle.fork_bound.proofs.States.{UserOk, Behind}
@@ -27,11 +26,10 @@ fair-whole W log u (startRead m i) f x = x
 fair-whole W log u (answer a) f x = λ e. f _ (x e)
 
 -- H's answers are no signatures
-no-signatures : (q : List ℕ) (l : ServeOutcome) (a : ℕ) (t : List ℕ) → List·Memᴰ (signed a t) (serverEvents q l) → ⊥
+no-signatures : (q : List ℕ) (n : ℕ) (buffer : List ℕ) (a : ℕ) (t : List ℕ) → List·Memᴰ (signed a t) (serverEvents q n buffer) → ⊥
 unfolding serverEvents
-no-signatures q l a t =
-    by-eqb (λ b. List·Memᴰ (signed a t) (cond b [] (answered q (take (l .out .answered) (l .answer)) ∷ [])) → ⊥) (l .out .answered) 0
-    (λ _ m. List·Memᴰ·not-nil m)
+no-signatures q n buffer a t =
+    by-eqb (λ b. List·Memᴰ (signed a t) (cond b [] (answered q (take n buffer) ∷ [])) → ⊥) n 0 (λ _ m. List·Memᴰ·not-nil m)
     (λ _ m. elim (List·Memᴰ·cases-cons m) [ inl e ↦ (let z : _≡_ {A = ℕ} 0 1 = cc in omega arith) | inr y ↦ List·Memᴰ·not-nil y ])
 
 module _ (W : Whole) where
@@ -54,13 +52,13 @@ module _ (W : Whole) where
       }
 
   holds-server : (w : World) (q buffer : List ℕ) → Holds w
-      → Holds (withServer w q (served (settings (W .group .servers) (W .group .follows) (W .group .log) (W .group .users)) (w .head) (w .store) (w .used) q buffer))
-  unfolding withServer
+      → Holds (withServer w q (served (settingsFor (W .group) (W .group .follows)) (w .server .head) (w .server .store) (w .server .used) q buffer))
+  unfolding withServer serverAfter
   holds-server w q buffer h =
       record {
         users = h .users;
         signatures = λ a t m.
-            elim (List·Memᴰ·append-cases (serverEvents q _) m) [ inl x ↦ absurd (no-signatures q _ a t x) | inr y ↦ h .signatures a t y ];
+            elim (List·Memᴰ·append-cases (serverEvents q _ _) m) [ inl x ↦ absurd (no-signatures q _ _ a t x) | inr y ↦ h .signatures a t y ];
         head = logged-server w _ q buffer (h .head);
       }
 
@@ -84,9 +82,9 @@ module _ (W : Whole) where
         call = tt;
       }
 
-  pub all-hold : (b : NewWorld) (xs : List Step) → Fair (W .group) b xs → Within W (run (W .group) b xs .log) → Holds (run (W .group) b xs)
+  pub all-hold : (b : NewWorld) (xs : List Step) → Fair (W .group) (run (W .group) b) xs → Within W (run (W .group) b xs .log) → Holds (run (W .group) b xs)
   unfolding run newWorld step withUser withServer Fair FairStep
-  all-hold b [] fair f = record { users = new-ok b; signatures = λ a t m. absurd (List·Memᴰ·not-nil m); head = logged-first b }
+  all-hold b [] fair f = record { users = new-ok b; signatures = λ a t m. absurd (List·Memᴰ·not-nil m); head = logged-first (W .group) b }
   all-hold b (user a i ∷ xs) fair f =
       let w = run (W .group) b xs in
       let t = userStep (settingsFor (W .group) a) (w .users a) i in
@@ -101,4 +99,4 @@ module _ (W : Whole) where
       holds-user w a (dropped (w .users a)) [] h (dropped-ok a (w .users a) (h .users a)) (every-none (Behind W))
   all-hold b (server q buffer ∷ xs) fair f =
       let w = run (W .group) b xs in
-      holds-server w q buffer (all-hold b xs (fair .1) (within-right W (serverEvents q _) (w .log) f))
+      holds-server w q buffer (all-hold b xs (fair .1) (within-right W (serverEvents q _ _) (w .log) f))

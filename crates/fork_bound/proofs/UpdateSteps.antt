@@ -1,7 +1,7 @@
 -- The steps of an Update keep what holds of its user.
 use mathlib.Core.Path.{_≡_, refl, sym, _∙_}
-use mathlib.Core.Bool.{true}
-use mathlib.Core.List.{List, [], _++_, List·Memᴰ·head, Memᴰ·append-right}
+use mathlib.Core.Bool.{true, cond}
+use mathlib.Core.List.{List, [], _++_, map, List·Memᴰ·head, Memᴰ·append-right}
 use Prim.Native.Nat.{ℕ, _+_, _≤_, _<_}
 use native.Mathlib.Omega.{arith}
 use lib.Dec.{eqb}
@@ -17,7 +17,6 @@ use Rattle.tree.proofs.Agree.{AllIn}
 use Rattle.tree.proofs.Cuts.{cover-digest-sized}
 use Rattle.tree.proofs.Tiles.{cover-some}
 use Rattle.user.specs.declared.call.Kept.{Kept}
-use Rattle.user.specs.declared.call.Step.{Step}
 use Rattle.user.specs.Asking.{requestRoom, refused, done, asking}
 use Rattle.user.specs.Outcome.{State, withKept, Lent, withHashes, Outcome}
 use Rattle.user_update.specs.declared.call.Update.{Update}
@@ -26,7 +25,7 @@ use Rattle.user_update.proofs.UpdateRules.{Taken, by-taken, by-goes, endedWith,
 use Rattle.user_update.proofs.UpdateAnswers.{arrives-at}
 use Rattle.user.proofs.Passed.{setup-passed, by-cond}
 use Rattle.user_calls.specs.Calls.{updating, asCall}
-use Rattle.whole_run.specs.World.{settingsFor, Event, Reading, allHashed, Sent, User, returned, sentBy, viewSent, viewAfter, newReads, after, coverStrings, updateHashed, recordAccepted}
+use Rattle.whole_run.specs.World.{settingsFor, Event, hashed, Reading, Sent, User, returned, sentBy, viewSent, viewAfter, newReads, after, coverStrings, recordAccepted, updateEvents}
 use Rattle.whole_run.proofs.Requests.{sent-kind, update-kind}
 use Rattle.fork_bound.specs.Claim.{NoneForged}
 use Rattle.fork_bound.proofs.Noted.{Whole, Hashed, Within, within-left, within-right, all-hashed}
@@ -38,9 +37,9 @@ pub view-left : (x : Sent) (view : ℕ) → requestKind (x .bytes) < 5 → viewS
 unfolding viewSent
 view-left x view h = rw (ne-eqb (requestKind (x .bytes)) 5 (λ e. omega arith))
 
--- what is noted of an answer that an Update takes in
-abbrev pub updateEvents : Settings → ℕ → Update → List ℕ → Outcome Update → List Event
-updateEvents s v c a o = updateHashed v o ++ recordAccepted s (o .step) c (o .call) a
+-- what is noted at the end of an Update: the strings of the cover's two digests
+abbrev coverNoted : ℕ → Outcome Update → List Event
+coverNoted v o = cond (o .step .ended) (map hashed (coverStrings v (o .call .position) (o .lent .hashes))) []
 
 -- an Update after an answer, and the memory with the hashes that it has collected then
 module _ (W : Whole) (c : Update) (a : List ℕ) where
@@ -73,11 +72,10 @@ module _ (W : Whole) (own : ℕ) where
   fresh-ok v two = record { small = omega arith; above = λ h. absurd (omega arith); told = λ h. absurd (omega arith) }
 
   -- the Record that was accepted
-  record-signed : (x : Step) (c next : Update) (a : List ℕ) → x .code ≡ 0 → Within W (recordAccepted s x c next a)
-      → c .answers ≡ n → SignedAt W (c .position) (next .digest)
+  record-signed : (c next : Update) (a : List ℕ) → Within W (recordAccepted s c next a) → c .answers ≡ n → SignedAt W (c .position) (next .digest)
   unfolding recordAccepted NoneForged
-  record-signed x c next a z h e owned =
-      let m = rw (eq-eqb (x .code) 0 z, eq-eqb (c .answers) n e) at h in
+  record-signed c next a h e owned =
+      let m = rw (eq-eqb (c .answers) n e) at h in
       (numberAt 2 (answerBody a) 0, owned _ _ (m _ (List·Memᴰ·head refl)))
 
   -- an answer that an Update took in
@@ -91,8 +89,8 @@ module _ (W : Whole) (own : ℕ) where
     abbrev v : ℕ
     v = σ .kept .version
 
-    pub next-ok : (x : Step) → x .code ≡ 0 → Within W (recordAccepted s x c next a) → UpdateOk W v next
-    next-ok x z f =
+    pub next-ok : Within W (recordAccepted s c next a) → UpdateOk W v next
+    next-ok f =
         let i = next-answers n c (answerBody a) in
         let up = next-above s (σ .kept) c hashes (answerBody a) (t .checks) (ok .above) in
         cases-le n (c .answers)
@@ -101,7 +99,7 @@ module _ (W : Whole) (own : ℕ) where
         record {
           small = rw p (ok .small);
           above = up;
-          told = λ _. rw p (cases-eq (c .answers) n (record-signed x c next a z f)
+          told = λ _. rw p (cases-eq (c .answers) n (record-signed c next a f)
               (λ e. let d = later-digest s σ m c a t (omega arith) in rw d (ok .told (omega arith))));
         })
         (λ h. record { small = status-small s σ m c a t (ok .small) h; above = up; told = λ l. absurd (omega arith) })
@@ -143,7 +141,7 @@ module _ (W : Whole) (own : ℕ) where
         }))
 
   -- the digest of p* over the cover, hashed
-  cover-hashed : (v p : ℕ) (hs : List ℕ) → Within W (allHashed (coverStrings v p hs)) → AllIn (Hashed W) (coverDigest v p hs)
+  cover-hashed : (v p : ℕ) (hs : List ℕ) → Within W (map hashed (coverStrings v p hs)) → AllIn (Hashed W) (coverDigest v p hs)
   unfolding coverStrings
   cover-hashed v p hs f =
       all-hashed W (coverDigest v p hs) (strings (coverDigest v v hs) ++ strings (coverDigest v p hs)) (cover-digest-sized v p hs)
@@ -163,19 +161,20 @@ module _ (W : Whole) (own : ℕ) where
       Keeps o = o .step .code ≡ 0 → Within W (updateEvents s (u .state .kept .version) c a o) → UserOk W own (after u (asCall updating o))
 
       -- whether it asks for more or has ended
-      goes-ok : Taken s (u .state) (u .lent) c a → (o : Outcome Update) → o .call ≡ nextUpdate W c a → o .step .code ≡ 0 → Within W (updateEvents s (u .state .kept .version) c a o)
+      goes-ok : Taken s (u .state) (u .lent) c a → (o : Outcome Update) → o .call ≡ nextUpdate W c a → Within W (updateEvents s (u .state .kept .version) c a o)
           → UpdateOk W (u .state .kept .version) (nextUpdate W c a)
-      goes-ok t o e z f =
-          let r = within-right W (updateHashed (u .state .kept .version) o) (recordAccepted s (o .step) c (o .call) a) f in
-          next-ok (u .state) (u .lent) c a t i (o .step) z (rw e at r)
+      unfolding updateEvents
+      goes-ok t o e f =
+          let r = within-right W (coverNoted (u .state .kept .version) o) (recordAccepted s c (o .call) a) f in
+          next-ok (u .state) (u .lent) c a t i (rw e at r)
 
       ends-ok : Taken s (u .state) (u .lent) c a → updateEnded n (u .state .kept .version) (nextUpdate W c a) ≡ true
           → Keeps (endedWith (u .state) (collected W c a (u .lent)) (nextUpdate W c a))
-      unfolding after done returned viewAfter viewSent sentBy newReads updateHashed
+      unfolding after done returned viewAfter viewSent sentBy newReads updateEvents
       ends-ok t e z f =
           let o = endedWith (u .state) (collected W c a (u .lent)) (nextUpdate W c a) in
-          let h = within-left W (updateHashed (u .state .kept .version) o) (recordAccepted s (o .step) c (o .call) a) f in
-          let x = arrives (u .state) (u .lent) c a t i (goes-ok t o refl z f) e (cover-hashed _ _ _ h) (u .reads) (ok .state) in
+          let h = within-left W (coverNoted (u .state .kept .version) o) (recordAccepted s c (o .call) a) f in
+          let x = arrives (u .state) (u .lent) c a t i (goes-ok t o refl f) e (cover-hashed _ _ _ h) (u .reads) (ok .state) in
           record { seen = sym (arrives-at s (u .state) (u .lent) c a t e); state = x .state; call = tt }
 
       pub update-taken-ok : Keeps (updateTaken s (u .state) (u .lent) c a)
@@ -185,7 +184,7 @@ module _ (W : Whole) (own : ℕ) where
           by-taken s (u .state) (u .lent) c a Keeps (λ n z. absurd (n z))
           (λ t.
           by-goes s (u .state) m (nextUpdate W c a) Keeps (λ e. ends-ok t e)
-          (λ _ z f. update-asks-ok m (nextUpdate W c a) (t .room) (goes-ok t (goingOn s (u .state) m (nextUpdate W c a)) refl z f)))
+          (λ _ _ f. update-asks-ok m (nextUpdate W c a) (t .room) (goes-ok t (goingOn s (u .state) m (nextUpdate W c a)) refl f)))
 
     -- an Update that starts asks for the first Status
     pub update-started-ok : (m : Lent) → updateStarted s (u .state) m .step .code ≡ 0 → UserOk W own (after u (asCall updating (updateStarted s (u .state) m)))

@@ -1,5 +1,5 @@
 -- The steps of an open write keep what holds of its user.
-use mathlib.Core.Path.{_≡_, refl, _∙_}
+use mathlib.Core.Path.{_≡_, refl, ap, _∙_, subst}
 use mathlib.Core.Bool.{Bool, true, false, cond, not, _||_}
 use mathlib.Core.List.{List, _++_, List·Memᴰ·head}
 use Prim.Native.Nat.{ℕ, suc, _-_, _≤_}
@@ -11,17 +11,17 @@ use Rattle.tree.specs.Message.{request, requestKind, requestPosition, signedTex
 use Rattle.tree.specs.Setup.{Settings, firstCode}
 use Rattle.tree.proofs.Cases.{by-eqb, cases-eq, not-both}
 use Rattle.tree.proofs.CheckLists.{check-passes}
-use Rattle.user.specs.declared.call.Kept.{Kept}
 use Rattle.user.specs.Asking.{userSetupChecks, requestRoom, ofNode, refused, done, asking}
+use Rattle.user.specs.declared.call.Kept.{Kept}
 use Rattle.user.specs.Outcome.{State, withKept, Lent, Outcome, nothing, ending}
 use Rattle.user_write.specs.declared.call.Write.{Write}
 use Rattle.user_write.specs.Write.{openedAt, commitNumber, pathDigest, writeKind, writeWant, writeBody, heldEntry, writeAsks, writeRoom, signsNext, writeChecks, writeSignature, signing, committed, goesOn, writeGoes}
 use Rattle.user.proofs.Passed.{setup-passed, answer-passed, or-cases, by-cond}
 use Rattle.user_write.proofs.WriteRules.{signs-last, Going, by-going, reserve-sent, commit-late}
 use Rattle.user_calls.specs.Calls.{writing, asCall}
-use Rattle.whole_run.specs.World.{settingsFor, Event, signed, Sent, User, sentBy, sentAfter, returned, viewSent, viewAfter, newReads, after, openingHashed, writeSigned, writeAccepted}
+use Rattle.whole_run.specs.World.{settingsFor, Event, signed, Sent, User, sentBy, returned, viewSent, viewAfter, newReads, after, recordAccepted, openingHashed, writeSigned, writeEvents}
 use Rattle.whole_run.proofs.Requests.{sent-kind, sent-position, write-kind, body-short, room-passed, signature-sized}
-use Rattle.fork_bound.proofs.Noted.{Whole, Within, within-left, within-right}
+use Rattle.fork_bound.proofs.Noted.{Whole, Within}
 use Rattle.fork_bound.proofs.Histories.{Signs, Reserved, Signed}
 use Rattle.fork_bound.proofs.States.{FromH, openPosition, openDigest, TookBelow, StateOk, WriteOk, UserOk, reads-commit}
 
@@ -31,9 +31,21 @@ unfolding viewSent
 view-set x view v e f =
     by-eqb (λ t. cond t (requestPosition (x .bytes) - 1) view ≡ v) (requestKind (x .bytes)) 5 (λ i. omega arith) f
 
--- what is noted of an answer that a Write takes in
-abbrev pub writeEvents : Settings → Kept → Write → List ℕ → Outcome Write → List Event
-writeEvents s k w a o = openingHashed s (k .version) w o ++ (writeSigned s k w o ++ writeAccepted s w o a)
+-- what is noted of an answer that an open Write takes in, and one that is not open yet
+module _ (s : Settings) (k : Kept) (w : Write) (a : List ℕ) (o : Outcome Write) where
+  abbrev pub beforeOpen : List Event
+  beforeOpen = openingHashed s (k .version) w o ++ recordAccepted s (w .update) (o .call .update) a
+
+  abbrev onceOpen : List Event
+  onceOpen = writeSigned s k w (o .state .path)
+
+  open-events : w .opened ≡ true → writeEvents s k w a o ≡ onceOpen
+  unfolding writeEvents
+  open-events = ap (λ t. cond t onceOpen beforeOpen)
+
+  pub shut-events : w .opened ≡ false → writeEvents s k w a o ≡ beforeOpen
+  unfolding writeEvents
+  shut-events = ap (λ t. cond t onceOpen beforeOpen)
 
 module _ (W : Whole) (own : ℕ) (u : User) where
   abbrev s : Settings
@@ -50,7 +62,7 @@ module _ (W : Whole) (own : ℕ) (u : User) where
       → ((writeKind (openPosition σ) (w .answers) ≡ 5 → ⊥) → u .view ≡ σ .kept .version)
       → TookBelow W own σ (w .answers) → (commitNumber (openPosition σ) ≤ w .answers → σ .kept .signed ≡ true)
       → UserOk W own (after u (asCall writing (writeAsks s σ m w)))
-  unfolding after writeAsks asking sentBy sentAfter returned viewAfter newReads writeWant ofNode requestRoom
+  unfolding after writeAsks asking sentBy returned viewAfter newReads writeWant ofNode requestRoom
   write-asks-ok σ m w room opened short random i seen took signs =
       let p = openPosition σ in
       let small = i .small in
@@ -165,12 +177,8 @@ module _ (W : Whole) (own : ℕ) (u : User) where
     nextLeft = writeAsks s (goesOn s σ (u .lent .key) w) (u .lent) (openedAt w (suc (w .answers)))
 
     signs-now : signsNext (σ .kept) w ≡ true → Within W (writeEvents s (σ .kept) w a nextLeft) → Signs W own p δ
-    unfolding writeSigned writeAsks asking goesOn
-    signs-now e f =
-        let o = nextLeft in
-        within-left W (writeSigned s (σ .kept) w o) (writeAccepted s w o a)
-        (within-right W (openingHashed s (σ .kept .version) w o) (writeSigned s (σ .kept) w o ++ writeAccepted s w o a) f) (signed own (signedText (s .log) p δ))
-        (rw (e, isOpen) (List·Memᴰ·head refl))
+    unfolding writeSigned writeAsks goesOn
+    signs-now e f = subst (Within W) (open-events s (σ .kept) w a nextLeft isOpen) f (signed own (signedText (s .log) p δ)) (rw e (List·Memᴰ·head refl))
 
     goes-on-ok : firstCode (writeChecks s (σ .kept) (u .lent) w a) ≡ 0 → (g : Going s σ (u .lent) w a) → (w .answers ≡ commitNumber p → ⊥) → WriteKeeps w a nextLeft
     unfolding goesOn signing
@@ -205,10 +213,10 @@ module _ (W : Whole) (own : ℕ) (u : User) where
     -- a signature is made only of the digest of the user's own path, all of whose Reserves H has accepted that are its own to accept
     abbrev SignsRightly : Outcome Write → Type 0
     SignsRightly o =
-        eqb (o .step .code) 0 ≡ true → signsNext (σ .kept) w ≡ true → Signed W own (signedText (s .log) p (pathDigest p (o .state .path)))
+        o .step .code ≡ 0 → signsNext (σ .kept) w ≡ true → Signed W own (signedText (s .log) p (pathDigest p (o .state .path)))
 
     pub signs-rightly : SignsRightly (writeGoes s σ (u .lent) w a)
     unfolding refused writeAsks goesOn
     signs-rightly =
-        by-going s σ (u .lent) w a SignsRightly (λ n z. absurd (n (eqb-true _ 0 z)))
+        by-going s σ (u .lent) w a SignsRightly (λ n z. absurd (n z))
         (λ g e _ n. let x = signs-last (σ .kept) w n in absurd (omega arith)) (λ g _ _ n. signed-now g n)

@@ -26,20 +26,21 @@ Differ x e y f = (x ≡ y) × (e ≡ f) → ⊥
 
 -- "Views ending at v and w after the list, with differing reads of d, have min(v, w) - d + 1 ≤ Q(d, N); where Q is 0 there is no such d."
 unfoldable pub Bounded : Setup → World → ℕ → ℕ → ℕ → Type 0
-Bounded g w a b d =
-    (min (w .users a .view) (w .users b .view) - d + 1 ≤ wait d (g .servers)) × (wait d (g .servers) ≡ 0 → ⊥)
+Bounded g w a b d = (min (w .users a .view) (w .users b .view) - d + 1 ≤ wait d (g .servers)) × (wait d (g .servers) ≡ 0 → ⊥)
 
--- The claim, for every group with a log name of 16 bytes, every server H of it, all that a start leaves free, every list of fair
--- steps, any two users and any d.
+-- What is claimed of a world: unless one of the two exceptions happened, any two users whose reads of any d differ have views within the
+-- bound.
+unfoldable pub BoundHolds : Setup → World → Type 0
+BoundHolds g w = NoneCollide w → NoneForged w → (a c d x y : ℕ) (e f : List ℕ) → HasRead w a d x e → HasRead w c d y f → Differ x e y f
+    → Bounded g w a c d
+
+-- The claim, for every group with a log name of 16 bytes, every server H of it, all that a start leaves free, and every list of fair
+-- steps.
 unfoldable pub ForkBound : Type 0
-ForkBound =
-    (g : Setup) → length (g .log) ≡ 16 → 1 ≤ g .follows → g .follows ≤ g .servers → (b : NewWorld) (xs : List Step) → Fair g b xs
-    → NoneCollide (run g b xs) → NoneForged (run g b xs)
-    → (a c d x y : ℕ) (e f : List ℕ) → HasRead (run g b xs) a d x e → HasRead (run g b xs) c d y f → Differ x e y f
-    → Bounded g (run g b xs) a c d
+ForkBound = (g : Setup) → length (g .log) ≡ 16 → 1 ≤ g .follows → g .follows ≤ g .servers → (b : NewWorld) (xs : List Step)
+    → Fair g (run g b) xs → BoundHolds g (run g b xs)
 
 -- The view is the version that a user keeps, though its four events speak of requests and answers.
 unfoldable pub ViewIsVersion : Type 0
-ViewIsVersion =
-    (g : Setup) → length (g .log) ≡ 16 → (b : NewWorld) (xs : List Step) → Fair g b xs → (a : ℕ)
+ViewIsVersion = (g : Setup) → length (g .log) ≡ 16 → (b : NewWorld) (xs : List Step) → Fair g (run g b) xs → (a : ℕ)
     → run g b xs .users a .view ≡ run g b xs .users a .state .kept .version

@@ -4,7 +4,7 @@ use mathlib.Core.Bool.{true, false}
 use mathlib.Core.List.{List, [], _++_}
 use Prim.Native.Nat.{ℕ, suc, _+_, _≤_, _<_}
 use lib.Dec.{eqb}
-use lib.ListN.{length, take}
+use lib.ListN.{length, take, getD}
 use Rattle.tree.specs.Bytes.{written}
 use Rattle.user.specs.declared.call.Step.{Step}
 use Rattle.user.specs.Outcome.{State, Lent, withHashes, withRequest}
@@ -17,7 +17,8 @@ use Rattle.user_read.specs.declared.call.Read.{Read}
 use Rattle.user_read.specs.Read.{readCount, readWant}
 use Rattle.user_calls.specs.Calls.{updating, writing, reading, Input, startUpdate, startWrite, startRead, answer}
 use Rattle.whole_run.specs.World.{User, Sent, userStep}
-use Rattle.honest_run.specs.Network.{HonestSetup, generatedKey, Server, Network, set, settingsIn, steps, Written, Run, wrote, entryBegun}
+use Rattle.whole_run.specs.Runs.{Server, set}
+use Rattle.honest_run.specs.Network.{HonestSetup, generatedKey, Network, settingsIn, steps, Written, Run, entriesOf, wrote}
 use Rattle.honest_run.specs.Claim.{Alone, storedBy, ValidMemory, writtenAt, Serves}
 use Rattle.honest_run.proofs.Invariant.{Item, bodyAt, UpdateOk, ReadOk, Good}
 use Rattle.honest_run.proofs.Frames.{sentFor, set-same, memory-collects, memory-asks}
@@ -124,17 +125,21 @@ pub record Holds (L : ℕ → Item) (w : ℕ) (log : List Written) : Type 0 wher
   pub author : (i : ℕ) → i < w → L i .author ≡ writtenAt log i .author
   pub entry : (i : ℕ) → i < w → L i .entry ≡ writtenAt log i .entry
 
+-- the entry that user a's last Write has begun, after a call that starts
+abbrev pub entryBegun : Input → List ℕ → List ℕ
+entryBegun i before = getD (entriesOf i) 0 before
+
 -- the entries begun, once a call has started
-abbrev pub begunBy : Run → ℕ → Input → ℕ → List ℕ
+abbrev pub begunBy : Run Network → ℕ → Input → ℕ → List ℕ
 begunBy r a i = set (r .begun) a (entryBegun i (r .begun a))
 
 -- a Write begins its entry
-pub begun-entry : (r : Run) (a : ℕ) (m : Lent) (entry randomizer : List ℕ) → begunBy r a (startWrite m entry randomizer) a ≡ entry
-unfolding entryBegun
+pub begun-entry : (r : Run Network) (a : ℕ) (m : Lent) (entry randomizer : List ℕ) → begunBy r a (startWrite m entry randomizer) a ≡ entry
+unfolding entriesOf
 begun-entry r a m entry randomizer = set-same (r .begun) a entry
 
 -- between two calls
-pub record Between (c : HonestSetup) (r : Run) : Type 0 where
+pub record Between (c : HonestSetup) (r : Run Network) : Type 0 where
   pub log : ℕ → Item
   pub w : ℕ
   pub g : ℕ
@@ -142,7 +147,7 @@ pub record Between (c : HonestSetup) (r : Run) : Type 0 where
   pub holds : Holds log w (r .log)
 
 -- a call of user a that goes on
-pub record OnWay (c : HonestSetup) (r : Run) (a : ℕ) (i : Input) (left : ℕ) (x : Network) : Type 0 where
+pub record OnWay (c : HonestSetup) (r : Run Network) (a : ℕ) (i : Input) (left : ℕ) (x : Network) : Type 0 where
   pub log : ℕ → Item
   pub w : ℕ
   pub g : ℕ
@@ -153,7 +158,7 @@ pub record OnWay (c : HonestSetup) (r : Run) (a : ℕ) (i : Input) (left : ℕ) 
   pub call : CallOk c log w g a left (x .users a) (x .servers) i
 
 -- a call of user a that has ended with 0
-pub record Over (c : HonestSetup) (r : Run) (a : ℕ) (i : Input) (handed : Step) (x : Network) : Type 0 where
+pub record Over (c : HonestSetup) (r : Run Network) (a : ℕ) (i : Input) (handed : Step) (x : Network) : Type 0 where
   pub log : ℕ → Item
   pub w : ℕ
   pub g : ℕ
@@ -163,14 +168,14 @@ pub record Over (c : HonestSetup) (r : Run) (a : ℕ) (i : Input) (handed : Step
   pub serves : Serves r a (x .users a) i
 
 -- a call's start, n answers being to come
-pub record Started (c : HonestSetup) (r : Run) (a : ℕ) (i : Input) (n : ℕ) : Type 0 where
+pub record Started (c : HonestSetup) (r : Run Network) (a : ℕ) (i : Input) (n : ℕ) : Type 0 where
   pub some : 0 < n
   pub code : userStep (settingsIn c a) (r .network .users a) i .step .code ≡ 0
   pub ended : userStep (settingsIn c a) (r .network .users a) i .step .ended ≡ false
   pub on-way : OnWay c r a i n (steps c (r .network) a i)
 
 -- an answer that is taken in, `left` more being to come
-pub record Stepped (c : HonestSetup) (r : Run) (a : ℕ) (i : Input) (left : ℕ) (x : Network) : Type 0 where
+pub record Stepped (c : HonestSetup) (r : Run Network) (a : ℕ) (i : Input) (left : ℕ) (x : Network) : Type 0 where
   pub code : handedBy c x a .code ≡ 0
   pub ended : handedBy c x a .ended ≡ eqb left 0
   pub goes-on : 0 < left → OnWay c r a i left (exchanged c x a)
@@ -182,7 +187,7 @@ pub record Late (c : HonestSetup) (L : ℕ → Item) (w : ℕ) (begun : ℕ → 
   pub good : Good c L w g begun x
 
 -- the Write that is on its way
-pub write-call : (c : HonestSetup) (r : Run) (a : ℕ) (m : Lent) (entry randomizer : List ℕ) (left : ℕ) (x : Network)
+pub write-call : (c : HonestSetup) (r : Run Network) (a : ℕ) (m : Lent) (entry randomizer : List ℕ) (left : ℕ) (x : Network)
     → (o : OnWay c r a (startWrite m entry randomizer) left x) → WriteCall c (o .log) (o .w) (o .g) a left entry (x .users a) (x .servers)
 unfolding CallOk
 write-call c r a m entry randomizer left x o = o .call

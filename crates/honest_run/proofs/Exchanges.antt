@@ -9,8 +9,10 @@ use Rattle.user.specs.declared.call.Step.{Step}
 use Rattle.user.specs.Outcome.{Outcome}
 use Rattle.user_write.specs.Write.{writeWant, writeKind, writeLevel}
 use Rattle.user_calls.specs.Calls.{Call, taken, stepped}
-use Rattle.whole_run.specs.World.{Sent, after, userAfter, userStep}
-use Rattle.honest_run.specs.Network.{HonestSetup, settingsIn, Network, set, reply, answerBytes, serverAfter, arrives, steps, comesBack}
+use Rattle.whole_run.specs.World.{Sent, User, after, userStep}
+use Rattle.whole_run.specs.Runs.{serverAfter, set}
+use Rattle.whole_run.proofs.Refusals.{accepted-step}
+use Rattle.honest_run.specs.Network.{HonestSetup, settingsIn, Network, reply, answerBytes, arrives, steps, comesBack}
 use Rattle.honest_run.proofs.Invariant.{Item, bodyAt, serving, PullRight, putting, serversAfter, PutRight}
 use Rattle.honest_run.proofs.Frames.{by-set, sentFor, reply-is}
 use Rattle.honest_run.proofs.Moves.{withUser}
@@ -36,14 +38,20 @@ pub record Exchanges (c : HonestSetup) (x : Network) (a : ℕ) (o : Outcome Call
   pub next : exchanged c x a ≡ leaving c x a o
   pub hands : handedBy c x a ≡ o .step
 
--- so does the answer y to call k
+-- so does the answer y to call k, where it is not refused
 pub exchange-is : (c : HonestSetup) (x : Network) (a : ℕ) (y : List ℕ) (k : Call) (o : Outcome Call) → x .users a .call ≡ k
-    → answerBytes (reply c x (x .users a .sent)) ≡ y → takenBy c x a k y ≡ o → Exchanges c x a o
-unfolding steps arrives comesBack userStep userAfter stepped
-exchange-is c x a y k o is back left =
+    → answerBytes (reply c x (x .users a .sent)) ≡ y → takenBy c x a k y ≡ o → o .step .code ≡ 0 → Exchanges c x a o
+unfolding steps arrives comesBack userStep stepped
+exchange-is c x a y k o is back left code =
     let all : takenBy c x a (x .users a .call) (answerBytes (reply c x (x .users a .sent))) ≡ o =
     ap (takenBy c x a (x .users a .call)) back ∙ ap (λ (z : Call). takenBy c x a z y) is ∙ left in
-    record { next = ap (leaving c x a) all; hands = ap (λ (z : Outcome Call). z .step) all }
+    let passed = ap (λ (z : Outcome Call). z .step .code) all ∙ code in
+    record {
+      next =
+          ap (λ (u : User). withUser x a u (arrives c x a .servers)) (accepted-step (settingsIn c a) (x .users a) (comesBack c x a) passed)
+          ∙ ap (leaving c x a) all;
+      hands = ap (λ (z : Outcome Call). z .step) all;
+    }
 
 -- a pull that is answered rightly
 module _ (c : HonestSetup) (L : ℕ → Item) (w g a : ℕ) (x : Network) (want : Want) (right : PullRight c L w g a (x .servers (want .server)) want)

@@ -14,10 +14,15 @@ use Rattle.user.specs.Asking.{asks, asking}
 use Rattle.user.specs.Outcome.{State, Lent, withHashes, withHeld, withRequest}
 use Rattle.user.proofs.Passed.{sent-is}
 use Rattle.whole_run.specs.World.{Sent, sentBy}
-use Rattle.honest_run.specs.Network.{HonestSetup, InRange, settingsIn, Network, set, reply}
+use Rattle.whole_run.specs.Runs.{NewWorld, set}
+use Rattle.honest_run.specs.Network.{HonestSetup, InRange, settingsIn, Network, reply, inRecords, Act, Run, newNetwork, runOf}
 use Rattle.honest_run.specs.Claim.{ValidMemory}
 use Rattle.honest_run.proofs.Invariant.{Item, texts, KeptOk, serving}
 use Rattle.honest_run.proofs.Log.{same-digest}
+
+-- the run of a list of calls, of users and servers in records
+abbrev pub runFrom : HonestSetup → NewWorld → List Act → Run Network
+runFrom c b = runOf (inRecords c) (newNetwork b)
 
 -- what holds of the changed one and of the others holds of all
 pub by-set : {A : Type 0} (P : ℕ → A → Type 0) (f : ℕ → A) (i : ℕ) (x : A) (j : ℕ) → P i x → ((j ≡ i → ⊥) → P j (f j)) → P j (set f i x j)

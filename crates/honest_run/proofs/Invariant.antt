@@ -28,7 +28,8 @@ use Rattle.user_update.specs.declared.call.Update.{Update}
 use Rattle.user_write.specs.Write.{commitNumber, writeLevel, writeKind, writeWant}
 use Rattle.user_read.specs.declared.call.Read.{Read}
 use Rattle.user_read.specs.Read.{heldText}
-use Rattle.honest_run.specs.Network.{HonestSetup, publicTo, settingsIn, Server, Network, set, answerBytes, serverAfter}
+use Rattle.honest_run.specs.Network.{HonestSetup, publicTo, settingsIn, Network, answerBytes}
+use Rattle.whole_run.specs.Runs.{Server, serverAfter, set}
 use Rattle.honest_run.specs.Claim.{storedTo, storedBy}
 
 -- The log as it grows: author, entry and signature at each place from 0. Place w is the open write's, once it is open.

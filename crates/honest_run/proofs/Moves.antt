@@ -7,7 +7,8 @@ use Rattle.tree.proofs.Cases.{cases-eq, not-both}
 use Rattle.user.specs.Outcome.{State}
 use Rattle.user_write.specs.Write.{commitNumber}
 use Rattle.whole_run.specs.World.{User}
-use Rattle.honest_run.specs.Network.{HonestSetup, Server, Network, set}
+use Rattle.whole_run.specs.Runs.{Server, set}
+use Rattle.honest_run.specs.Network.{HonestSetup, Network}
 use Rattle.honest_run.specs.Claim.{Alone}
 use Rattle.honest_run.proofs.Invariant.{Item, texts, ServerOk, RoomLeft, ItemOk, SignedOk, KeptOk, Good}
 use Rattle.honest_run.proofs.Frames.{set-same, set-other, kept-moves, kept-begun}

@@ -12,8 +12,8 @@ use Rattle.user.specs.Outcome.{State, Key, Lent, withKept, Outcome, nothing, en
 use Rattle.user_write.specs.declared.call.Write.{Write}
 use Rattle.user_write.specs.Write.{commitNumber, writeTaken, openedAt, committed, writeAnswers, commitSignature, writeAsks}
 use Rattle.user_calls.specs.Calls.{Call, writing, Input, startWrite, asCall, taken}
-use Rattle.whole_run.specs.World.{User, sentBy, returned, sentAfter, after}
-use Rattle.honest_run.specs.Network.{HonestSetup, InRange, settingsIn, Network, arrives, Run, Written, wrote, answerBytes, generatedKey, reply}
+use Rattle.whole_run.specs.World.{User, sentBy, returned, after}
+use Rattle.honest_run.specs.Network.{HonestSetup, InRange, settingsIn, Network, arrives, Run, Written, wrote, answerBytes, generatedKey, reply, entriesOf}
 use Rattle.honest_run.specs.Claim.{Reaches, Serves}
 use Rattle.honest_run.proofs.Invariant.{Item, ServerOk, RoomLeft, OpenOk, PutRight, serversAfter, digestOf}
 use Rattle.honest_run.proofs.Frames.{set-same, set-other}
@@ -44,7 +44,7 @@ open-moves c L w g h a entry σ p few =
       unsigned = λ e. (few e, p .unsigned e .1);
     }
 
-module _ (c : HonestSetup) (range : InRange c) (r : Run) (a : ℕ) (m : Lent) (entry randomizer : List ℕ) (left : ℕ) (x : Network)
+module _ (c : HonestSetup) (range : InRange c) (r : Run Network) (a : ℕ) (m : Lent) (entry randomizer : List ℕ) (left : ℕ) (x : Network)
     (o : OnWay c r a (startWrite m entry randomizer) (suc left) x)
     (call : WriteCall c (o .log) (o .w) (o .g) a (suc left) entry (x .users a) (x .servers)) (going : call .call .opened ≡ true)
     (one : 1 ≤ a) (last : a ≤ c .count) where
@@ -164,7 +164,7 @@ module _ (c : HonestSetup) (range : InRange c) (r : Run) (a : ℕ) (m : Lent) (e
     holds-then : Holds (o .log) (suc (o .w)) (r .log ++ (written-now ∷ []))
     holds-then = holds-more (o .log) (o .w) (r .log) written-now (o .holds) (ok .author) (ok .entry)
 
-    reaches : Reaches (r .log ++ (written-now ∷ [])) (after who ended)
+    reaches : Reaches (r .log ++ (written-now ∷ [])) (after who ended .state .kept)
     unfolding Reaches after committed
     reaches = (
       version ∙ holds-then .count,
@@ -174,7 +174,7 @@ module _ (c : HonestSetup) (range : InRange c) (r : Run) (a : ℕ) (m : Lent) (e
 
     -- what is written is one entry more
     write-ends : Ends c r a i x (writing now) given
-    unfolding taken wrote returned Serves sentBy done after sentAfter
+    unfolding taken wrote entriesOf returned Serves sentBy done after
     write-ends =
         record {
           outcome = ended;

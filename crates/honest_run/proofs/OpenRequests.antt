@@ -11,8 +11,9 @@ use Rattle.user.specs.Asking.{asking}
 use Rattle.user_write.specs.declared.call.Write.{Write}
 use Rattle.user_write.specs.Write.{commitNumber, writeWant, writeAnswers, writeAsks}
 use Rattle.user_calls.specs.Calls.{Call, writing, startWrite, asCall}
-use Rattle.whole_run.specs.World.{User, returned, sentAfter, newReads, after}
-use Rattle.honest_run.specs.Network.{HonestSetup, InRange, Server, Network, settingsIn, Run, arrives}
+use Rattle.whole_run.specs.World.{User, returned, newReads, after}
+use Rattle.whole_run.specs.Runs.{Server}
+use Rattle.honest_run.specs.Network.{HonestSetup, InRange, Network, settingsIn, Run, arrives}
 use Rattle.honest_run.proofs.Invariant.{OpenOk, Item, digestOf, ServerOk, RoomLeft, bodyAt}
 use Rattle.honest_run.proofs.Log.{same-digest, items-stay, same-texts}
 use Rattle.honest_run.proofs.Frames.{sent-for}
@@ -53,7 +54,7 @@ module _ (c : HonestSetup) (range : InRange c) (L : ℕ → Item) (w g a left : 
 
   -- the Write of a user that hands it out
   pub asks-call : (u : User) (y : ℕ → Server) → WriteCall c L w g a left entry (after u (asCall writing (asksNext c L w a σ m call))) y
-  unfolding after asking sentAfter returned
+  unfolding after asking returned
   asks-call u y =
       record {
         call = call;
@@ -73,7 +74,7 @@ module _ (c : HonestSetup) (range : InRange c) (L : ℕ → Item) (w g a left : 
       }
 
 -- a Write that has had an answer, and is open then with what σ keeps, in the log M of whose open write h requests have arrived
-module _ (c : HonestSetup) (range : InRange c) (r : Run) (a : ℕ) (m : Lent) (entry randomizer : List ℕ) (left : ℕ) (x : Network)
+module _ (c : HonestSetup) (range : InRange c) (r : Run Network) (a : ℕ) (m : Lent) (entry randomizer : List ℕ) (left : ℕ) (x : Network)
     (o : OnWay c r a (startWrite m entry randomizer) (suc left) x) (M : ℕ → Item) (h : ℕ) (σ : State)
     (old : (i : ℕ) → i < o .w → o .log i ≡ M i) where
   -- what the step leaves

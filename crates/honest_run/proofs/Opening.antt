@@ -35,7 +35,8 @@ use Rattle.user_update.proofs.UpdateRules.{endedWith}
 use Rattle.user_write.specs.declared.call.Write.{Write}
 use Rattle.user_write.specs.Write.{openedAt, targetFits, ownLeaf, heldEntry, freshWrite, writeRoom, writeStartChecks, writeStarted, writeAsks, writeWaits, openingChecks, opening, writeOpens, writeUpdates, writeGoes, writeTaken, withUpdate}
 use Rattle.whole_run.proofs.Requests.{entry-sizes, laid-length}
-use Rattle.honest_run.specs.Network.{HonestSetup, settingsIn, set}
+use Rattle.honest_run.specs.Network.{HonestSetup, settingsIn}
+use Rattle.whole_run.specs.Runs.{set}
 use Rattle.honest_run.proofs.Invariant.{Item, texts, hashOf, OpenOk}
 use Rattle.honest_run.proofs.Log.{same-hash}
 use Rattle.honest_run.proofs.Frames.{set-same, set-other}

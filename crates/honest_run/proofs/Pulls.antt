@@ -25,7 +25,8 @@ use Rattle.server.proofs.Codes.{code-status, code-pull}
 use Rattle.server.proofs.Theorems.{pull-changes-nothing}
 use Rattle.user.specs.declared.ask.Want.{Want}
 use Rattle.user.specs.Asking.{asks}
-use Rattle.honest_run.specs.Network.{HonestSetup, InRange, publicTo, settingsIn, Server, serverAfter}
+use Rattle.honest_run.specs.Network.{HonestSetup, InRange, publicTo, settingsIn}
+use Rattle.whole_run.specs.Runs.{Server, serverAfter}
 use Rattle.honest_run.proofs.Invariant.{Item, texts, hashOf, bodyOf, recordOf, ServerOk, SignedOk, ItemOk, RightBody, CanAsk, PullRight}
 use Rattle.honest_run.proofs.Log.{hash-size, hash-of-leaf}
 use Rattle.honest_run.proofs.Keys.{user-count}

@@ -13,7 +13,8 @@ use Rattle.tree.proofs.Labels.{owner-range}
 use Rattle.user.specs.declared.ask.Want.{Want}
 use Rattle.user.specs.Asking.{ofNode}
 use Rattle.user_write.specs.Write.{commitNumber, writeKind, writeLevel, writeWant}
-use Rattle.honest_run.specs.Network.{HonestSetup, InRange, Server, set, answerBytes, serverAfter}
+use Rattle.honest_run.specs.Network.{HonestSetup, InRange, answerBytes}
+use Rattle.whole_run.specs.Runs.{Server, serverAfter, set}
 use Rattle.honest_run.specs.Claim.{storedTo}
 use Rattle.honest_run.proofs.Invariant.{Item, digestOf, bodyOf, numberOf, ServerOk, RoomLeft, SignedOk, ItemOk, serving, bodyAt, PutRight}
 use Rattle.honest_run.proofs.Frames.{by-set}

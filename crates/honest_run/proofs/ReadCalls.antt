@@ -10,8 +10,8 @@ use Rattle.user.specs.Outcome.{Lent, Outcome}
 use Rattle.user_read.specs.declared.call.Read.{Read}
 use Rattle.user_read.specs.Read.{readCount, readWant, readNext, readAsks, readEnds, readTaken}
 use Rattle.user_calls.specs.Calls.{reading, startRead, asCall, taken}
-use Rattle.whole_run.specs.World.{User, Reading, sentBy, newReads, returned, sentAfter, after}
-use Rattle.honest_run.specs.Network.{HonestSetup, InRange, settingsIn, Network, arrives, Run, wrote}
+use Rattle.whole_run.specs.World.{User, Reading, sentBy, newReads, returned, after}
+use Rattle.honest_run.specs.Network.{HonestSetup, InRange, settingsIn, Network, arrives, Run, wrote, entriesOf}
 use Rattle.honest_run.specs.Claim.{writtenAt, Serves}
 use Rattle.honest_run.proofs.Invariant.{ReadOk, PullRight}
 use Rattle.honest_run.proofs.Frames.{sent-for, memory-asks}
@@ -23,7 +23,7 @@ use Rattle.honest_run.proofs.Steps.{GoesOn, Ends, is-over, pull-leaves,
 use Rattle.honest_run.proofs.Starts.{fit-user}
 use Rattle.honest_run.proofs.UpdateAnswers.{pull-in}
 
-module _ (c : HonestSetup) (range : InRange c) (r : Run) (a : ℕ) (m : Lent) (i left : ℕ) (x : Network) (one : 1 ≤ a) (last : a ≤ c .count)
+module _ (c : HonestSetup) (range : InRange c) (r : Run Network) (a : ℕ) (m : Lent) (i left : ℕ) (x : Network) (one : 1 ≤ a) (last : a ≤ c .count)
     (o : OnWay c r a (startRead m i) (suc left) x) where
   abbrev who : User
   who = x .users a
@@ -94,7 +94,7 @@ module _ (c : HonestSetup) (range : InRange c) (r : Run) (a : ℕ) (m : Lent) (i
     few = let e = call .count in omega arith
 
     then-call : ReadCall c (o .log) (o .w) a i left (after who (asCall reading asks-on))
-    unfolding after readAsks asking readNext sentAfter returned
+    unfolding after readAsks asking readNext returned
     then-call =
         record {
           call = later;
@@ -142,7 +142,7 @@ module _ (c : HonestSetup) (range : InRange c) (r : Run) (a : ℕ) (m : Lent) (i
         ∙ ap (reads (writtenAt (r .log) (i - 1) .author) (writtenAt (r .log) (i - 1) .entry)) (o .reads)
 
     read-ends : Ends c r a (startRead m i) x (reading now) given
-    unfolding taken wrote Serves sentBy done after readEnds sentAfter
+    unfolding taken wrote entriesOf returned Serves sentBy done after readEnds
     read-ends =
         record {
           outcome = asCall reading gives-it;

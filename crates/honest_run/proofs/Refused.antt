@@ -2,7 +2,7 @@
 use mathlib.Core.Path.{_≡_, refl, ap, sym, _∙_, subst}
 use mathlib.Core.Logic.{_⊎_, inl, inr, ⊎-elim}
 use mathlib.Core.Bool.{true, false, cond, _&&_}
-use mathlib.Core.List.{List, [], _∷_, _++_, append-nil}
+use mathlib.Core.List.{List, [], _∷_, _++_, map, append-nil}
 use Prim.Native.Nat.{ℕ, zero, suc, _≤_, _<_}
 use native.Mathlib.Omega.{arith}
 use lib.Dec.{eqb}
@@ -26,10 +26,11 @@ use Rattle.user_write.specs.Write.{withUpdate, freshWrite, writeRoom, writeStar
 use Rattle.user_write.proofs.WriteRules.{by-going, by-opening}
 use Rattle.user_write.proofs.WriteAnswers.{by-updating}
 use Rattle.user_calls.specs.Calls.{idle, Call, updating, writing, reading, Input, startUpdate, startWrite, startRead, asCall, strayCode, taken, stepped, answer}
-use Rattle.whole_run.specs.World.{User, sentBy, returned, sentAfter, unlessRefused, userStep, after, userAfter}
+use Rattle.whole_run.specs.World.{User, sentBy, returned, userStep, after}
+use Rattle.whole_run.specs.Runs.{serverAfter}
 use Rattle.whole_run.proofs.Requests.{sent-kind, update-kind, room-passed}
-use Rattle.whole_run.proofs.Refusals.{refused-step}
-use Rattle.honest_run.specs.Network.{HonestSetup, InRange, settingsIn, Network, reply, serverAfter, arrives, steps, comesBack, networkAfter, handed, Act, calls, Written, Run, wrote, doAct}
+use Rattle.whole_run.proofs.Refusals.{refused-step, accepted-step}
+use Rattle.honest_run.specs.Network.{HonestSetup, InRange, settingsIn, Network, reply, arrives, steps, comesBack, networkAfter, handed, Act, calls, Written, Run, wrote, doAct, entriesOf, inRecords}
 use Rattle.honest_run.specs.Claim.{RefusedWrite, Refused}
 use Rattle.honest_run.proofs.Invariant.{Item, Good}
 use Rattle.honest_run.proofs.Frames.{by-set, set-same, set-other}
@@ -42,15 +43,11 @@ use Rattle.honest_run.proofs.Calls.{Holds, begunBy, Between}
 -- nothing is written by a step that is refused
 wrote-refused : (a : ℕ) (i : Input) (z : Step) → (z .code ≡ 0 → ⊥) → wrote a i z ≡ []
 unfolding wrote returned
-wrote-refused a (startUpdate m) z n = refl
-wrote-refused a (startWrite m entry randomizer) z n =
-    let e = ne-eqb (z .code) 0 n in
-    by-bool (λ t. cond {A = List Written} (t && eqb (z .code) 0) (record { author = a; entry = entry } ∷ []) [] ≡ []) (z .ended)
-    (λ _. rw e) (λ _. refl)
-wrote-refused a (startRead m i) z n = refl
-wrote-refused a (answer y) z n = refl
+wrote-refused a i z n =
+    by-bool (λ t. cond {A = List Written} (t && eqb (z .code) 0) (map (λ e. record { author = a; entry = e }) (entriesOf i)) [] ≡ []) (z .ended)
+    (λ _. rw (ne-eqb (z .code) 0 n)) (λ _. refl)
 
-log-same : (r : Run) (a : ℕ) (i : Input) (z : Step) → (z .code ≡ 0 → ⊥) → r .log ++ wrote a i z ≡ r .log
+pub log-same : (r : Run Network) (a : ℕ) (i : Input) (z : Step) → (z .code ≡ 0 → ⊥) → r .log ++ wrote a i z ≡ r .log
 log-same r a i z n = ap (λ (y : List Written). r .log ++ y) (wrote-refused a i z n) ∙ append-nil (r .log)
 
 -- a refused step of user a leaves every user
@@ -62,8 +59,8 @@ users-same c x a i n j =
     (refused-step (settingsIn c a) (x .users a) i n) (λ _. refl)
 
 -- a call that is refused at its start changes nothing
-refused-at-start : (c : HonestSetup) (r : Run) (a : ℕ) (i : Input) → Between c r → (handed c (r .network) a i 0 .code ≡ 0 → ⊥)
-    → Between c (doAct c r (calls a i 0 false))
+refused-at-start : (c : HonestSetup) (r : Run Network) (a : ℕ) (i : Input) → Between c r → (handed (inRecords c) (r .network) a i 0 .code ≡ 0 → ⊥)
+    → Between c (doAct (inRecords c) r (calls a i 0 false))
 unfolding doAct handed networkAfter steps
 refused-at-start c r a i between n =
     record {
@@ -72,10 +69,10 @@ refused-at-start c r a i between n =
       g = between .g;
       good =
           subst (λ t. Good c (between .log) (between .w) (between .g) (cond t (begunBy r a i) (r .begun)) (steps c (r .network) a i))
-          (sym (ne-eqb (handed c (r .network) a i 0 .code) 0 n))
+          (sym (ne-eqb (handed (inRecords c) (r .network) a i 0 .code) 0 n))
           (good-same c (between .log) (between .w) (between .g) (r .begun) (r .begun) (r .network) (steps c (r .network) a i) (between .good)
           (λ j. ap (λ (u : User). u .state) (users-same c (r .network) a i n j)) (λ s one. refl) (λ j _. refl));
-      holds = subst (Holds (between .log) (between .w)) (sym (log-same r a i (handed c (r .network) a i 0) n)) (between .holds);
+      holds = subst (Holds (between .log) (between .w)) (sym (log-same r a i (handed (inRecords c) (r .network) a i 0) n)) (between .holds);
     }
 
 -- the codes of a Write that is refused as it would open
@@ -150,7 +147,7 @@ module _ (s : Settings) (named : length (s .log) ≡ 16) (before : User) where
   -- its Update hands out the next request
   asks-on : (u : User) (m : Lent) (w : Write) (x : Update) → u .state ≡ before .state → w .opened ≡ false → 2566 ≤ length (m .request)
       → Waits before (after u (asCall writing (writeWaits (u .state) w (goingOn s (u .state) m x))))
-  unfolding after writeWaits asking sentBy sentAfter returned
+  unfolding after writeWaits asking sentBy returned
   asks-on u m w x same shut room =
       let want = updateWant (s .servers) (u .state .kept .version) x in
       let small = update-kind (s .servers) (u .state .kept .version) x in
@@ -240,34 +237,39 @@ module _ (c : HonestSetup) (range : InRange c) (x : Network) (a : ℕ) where
   past-set v = subst (λ (u : User). Past (u .call)) (sym (set-same (v .users) a (next v)))
 
   goes : (v : Network) → Pulls v → Reached (exchanged c v a)
-  unfolding comesBack userStep userAfter stepped
+  unfolding comesBack userStep stepped
   goes v o =
       cases-eq (handedBy c v a .code) 0
       (λ z.
       ⊎-elim (λ w. inl (moved v o w)) (λ p. inr (past-set v p))
-      (takes (settingsIn c a) (range .named) (x .users a) (v .users a) _ (o .waits) z))
+      (subst (Stage (settingsIn c a) (range .named) (x .users a)) (sym (accepted-step (settingsIn c a) (v .users a) (comesBack c v a) z))
+      (takes (settingsIn c a) (range .named) (x .users a) (v .users a) _ (o .waits) z)))
       (λ n. inl (refused-on v o n))
 
   goes-past : (v : Network) → Past (v .users a .call) → Past (exchanged c v a .users a .call) × (AtOpening (handedBy c v a .code) → ⊥)
-  unfolding comesBack userStep userAfter stepped
+  unfolding comesBack userStep stepped
   goes-past v p =
-      let q = past-taken (settingsIn c a) (v .users a) _ (v .users a .call) p in
-      (past-set v (q .0), q .1)
+      let q = past-taken (settingsIn c a) (v .users a) _ (v .users a .call) p in (
+        past-set v
+            (cases-eq (handedBy c v a .code) 0
+            (λ z. subst (λ (u : User). Past (u .call)) (sym (accepted-step (settingsIn c a) (v .users a) (comesBack c v a) z)) (q .0))
+            (λ n. subst (λ (u : User). Past (u .call)) (sym (refused-step (settingsIn c a) (v .users a) (comesBack c v a) n)) p)),
+        q .1,
+      )
 
   -- the Write of user a, after any count of answers
-  module _ (m : Lent) (entry randomizer : List ℕ) (accepted : handed c x a (startWrite m entry randomizer) 0 .code ≡ 0)
+  module _ (m : Lent) (entry randomizer : List ℕ) (accepted : handed (inRecords c) x a (startWrite m entry randomizer) 0 .code ≡ 0)
       (shut : x .users a .state .kept .opened ≡ false) where
     abbrev i : Input
     i = startWrite m entry randomizer
 
     first : Reached (steps c x a i)
-    unfolding steps handed userStep userAfter stepped unlessRefused
+    unfolding steps handed userStep stepped
     first =
         let s = settingsIn c a in
         let u = x .users a in
         let o : Outcome Write = writeStarted s (u .state) m entry randomizer in
-        let e : userStep s u i .user ≡ after u (asCall writing o) = rw (eq-eqb (o .step .code) 0 accepted) in
-        let same = set-same (x .users) a (userStep s u i .user) ∙ e in
+        let same = set-same (x .users) a (userStep s u i .user) ∙ accepted-step s u i accepted in
         ⊎-elim
         (λ w.
         inl (record {
@@ -278,17 +280,17 @@ module _ (c : HonestSetup) (range : InRange c) (x : Network) (a : ℕ) where
         (λ p. inr (subst (λ (y : User). Past (y .call)) (sym same) p))
         (starts-on s (range .named) u m entry randomizer shut accepted)
 
-    reached : (k : ℕ) → Reached (networkAfter c x a i k)
+    reached : (k : ℕ) → Reached (networkAfter (inRecords c) x a i k)
     unfolding networkAfter
     reached zero = first
-    reached (suc k) = ⊎-elim (goes (networkAfter c x a i k)) (λ p. inr (goes-past (networkAfter c x a i k) p .0)) (reached k)
+    reached (suc k) = ⊎-elim (goes (networkAfter (inRecords c) x a i k)) (λ p. inr (goes-past (networkAfter (inRecords c) x a i k) p .0)) (reached k)
 
     -- 20 or 19 comes while its Update goes on
-    refused-after : (k : ℕ) → AtOpening (handed c x a i k .code) → Pulls (networkAfter c x a i k)
+    refused-after : (k : ℕ) → AtOpening (handed (inRecords c) x a i k .code) → Pulls (networkAfter (inRecords c) x a i k)
     unfolding networkAfter handed
     refused-after zero o = absurd (not-zero _ o accepted)
     refused-after (suc k) o =
-        ⊎-elim (λ p. refused-on (networkAfter c x a i k) p (not-zero _ o)) (λ p. absurd (goes-past (networkAfter c x a i k) p .1 o)) (reached k)
+        ⊎-elim (λ p. refused-on (networkAfter (inRecords c) x a i k) p (not-zero _ o)) (λ p. absurd (goes-past (networkAfter (inRecords c) x a i k) p .1 o)) (reached k)
 
   -- what holds of users and servers then, with another entry begun by user a
   pulls-good : (L : ℕ → Item) (w g : ℕ) (b f : ℕ → List ℕ) → Good c L w g b x → x .users a .state .kept .opened ≡ false
@@ -302,34 +304,34 @@ module _ (c : HonestSetup) (range : InRange c) (x : Network) (a : ℕ) where
       (λ j t. begun j (λ e. not-both (x .users a .state .kept .opened) (subst (λ k. x .users k .state .kept .opened ≡ true) e t) shut))
 
 -- a Write that is refused at the end of its Update
-refused-at-opening : (c : HonestSetup) → InRange c → (r : Run) (a : ℕ) (i : Input) (k : ℕ) → Between c r → RefusedWrite c r a i k
-    → Between c (doAct c r (calls a i k false))
-unfolding RefusedWrite doAct
-refused-at-opening c range r a (startUpdate m) k between v = absurd v
+refused-at-opening : (c : HonestSetup) → InRange c → (r : Run Network) (a : ℕ) (i : Input) (k : ℕ) → Between c r → RefusedWrite c r a i k
+    → Between c (doAct (inRecords c) r (calls a i k false))
+unfolding RefusedWrite entriesOf doAct
+refused-at-opening c range r a (startUpdate m) k between v = absurd (v .0 refl)
 refused-at-opening c range r a (startWrite m entry randomizer) k between v =
     let i = startWrite m entry randomizer in
     let x = r .network in
-    let p = refused-after c range x a m entry randomizer (v .0) (v .1) k (v .2) in
+    let p = refused-after c range x a m entry randomizer (v .1) (v .2) k (v .3) in
     record {
       log = between .log;
       w = between .w;
       g = between .g;
       good =
-          subst (λ t. Good c (between .log) (between .w) (between .g) (cond t (begunBy r a i) (r .begun)) (networkAfter c x a i k))
-          (sym (eq-eqb (handed c x a i 0 .code) 0 (v .0)))
-          (pulls-good c range x a (between .log) (between .w) (between .g) (r .begun) (begunBy r a i) (between .good) (v .1)
-          (λ j n. set-other (r .begun) a _ j n) (networkAfter c x a i k) p);
+          subst (λ t. Good c (between .log) (between .w) (between .g) (cond t (begunBy r a i) (r .begun)) (networkAfter (inRecords c) x a i k))
+          (sym (eq-eqb (handed (inRecords c) x a i 0 .code) 0 (v .1)))
+          (pulls-good c range x a (between .log) (between .w) (between .g) (r .begun) (begunBy r a i) (between .good) (v .2)
+          (λ j n. set-other (r .begun) a _ j n) (networkAfter (inRecords c) x a i k) p);
       holds =
-          subst (Holds (between .log) (between .w)) (sym (log-same r a i (handed c x a i k) (not-zero _ (v .2)))) (between .holds);
+          subst (Holds (between .log) (between .w)) (sym (log-same r a i (handed (inRecords c) x a i k) (not-zero _ (v .3)))) (between .holds);
     }
-refused-at-opening c range r a (startRead m i) k between v = absurd v
-refused-at-opening c range r a (answer y) k between v = absurd v
+refused-at-opening c range r a (startRead m i) k between v = absurd (v .0 refl)
+refused-at-opening c range r a (answer y) k between v = absurd (v .0 refl)
 
 -- every call that was refused leaves what the next one needs
-pub refused-leaves : (c : HonestSetup) → InRange c → (r : Run) (x : Act) → Between c r → Refused c r x → Between c (doAct c r x)
+pub refused-leaves : (c : HonestSetup) → InRange c → (r : Run Network) (x : Act) → Between c r → Refused c r x → Between c (doAct (inRecords c) r x)
 unfolding Refused
 refused-leaves c range r (calls a i k late) between v =
-    subst (λ t. Between c (doAct c r (calls a i k t))) (sym (v .0))
+    subst (λ t. Between c (doAct (inRecords c) r (calls a i k t))) (sym (v .0))
     (⊎-elim
-    (λ z. subst (λ n. Between c (doAct c r (calls a i n false))) (sym (z .0)) (refused-at-start c r a i between (z .1)))
+    (λ z. subst (λ n. Between c (doAct (inRecords c) r (calls a i n false))) (sym (z .0)) (refused-at-start c r a i between (z .1)))
     (refused-at-opening c range r a i k between) (v .1))

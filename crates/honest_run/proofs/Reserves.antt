@@ -28,7 +28,8 @@ use Rattle.server.proofs.Effects.{level-other, level-higher, level-kept, head-r
 use Rattle.server.proofs.Served.{Ready, Early}
 use Rattle.server.proofs.Theorems.{store-changes-only-by-puts}
 use Rattle.user.specs.Asking.{asks}
-use Rattle.honest_run.specs.Network.{HonestSetup, InRange, publicTo, settingsIn, Server, answerBytes, serverAfter}
+use Rattle.honest_run.specs.Network.{HonestSetup, InRange, publicTo, settingsIn, answerBytes}
+use Rattle.whole_run.specs.Runs.{Server, serverAfter}
 use Rattle.honest_run.proofs.Invariant.{Item, digestOf, recordOf, has, reached, ownerOf, ServerOk, ItemOk}
 use Rattle.honest_run.proofs.Log.{digest-size}
 use Rattle.honest_run.proofs.Heads.{owner-label, above-own, taken, passed, label-is, label-le, position-le, position-gt}

@@ -13,7 +13,8 @@ use Rattle.tree.proofs.Cases.{cases-eq}
 use Rattle.tree.proofs.Levels.{full-iff}
 use Rattle.server.specs.Shape.{levelFits, nodeFits}
 use Rattle.user_write.specs.Write.{commitNumber, writeKind, writeLevel}
-use Rattle.honest_run.specs.Network.{HonestSetup, Server}
+use Rattle.honest_run.specs.Network.{HonestSetup}
+use Rattle.whole_run.specs.Runs.{Server}
 use Rattle.honest_run.specs.Claim.{bodySize, storedTo}
 use Rattle.honest_run.proofs.Invariant.{Item, digestOf, bodyOf, numberOf, RoomLeft, SignedOk, bodyAt}
 use Rattle.honest_run.proofs.Log.{hash-size, digest-size}

@@ -26,12 +26,13 @@ use Rattle.user_update.specs.Update.{updateAnswers, updateSetup, updateStarted}
 use Rattle.user_write.specs.Write.{targetFits, commitNumber, writeLevel, writeAnswers}
 use Rattle.user_calls.specs.Calls.{Input, startUpdate, startWrite, stepped}
 use Rattle.whole_run.specs.World.{User, userStep}
-use Rattle.whole_run.specs.Runs.{newUser}
-use Rattle.honest_run.specs.Network.{InRange, generatedKey, settingsIn, steps, networkAfter, handed, calls, wrote, doAct, newNetwork, Run, runOf, NewNetwork}
-use Rattle.honest_run.specs.Claim.{Alone, bodySize, storedTo, NewWrite, ValidInput, ValidCall, answersOf, countOf, Refused, AllValid, NotRefused, Reaches, Serves, HonestRun}
+use Rattle.whole_run.specs.Runs.{newUser, NewWorld, newServer}
+use Rattle.honest_run.specs.Network.{InRange, generatedKey, settingsIn, steps, networkAfter, handed, calls, doAct, newNetwork, Run, runOf, Network, inRecords}
+use Rattle.honest_run.specs.Claim.{Alone, bodySize, storedTo, NewWrite, ValidInput, ValidCall, answersOf, countOf, Refused, AllValid, NotRefused, Reaches, Serves, CallsServe, HonestRun}
 use Rattle.honest_run.specs.Sample.{small}
-use Rattle.honest_run.proofs.Refused.{users-same}
+use Rattle.honest_run.proofs.Refused.{log-same, users-same}
 use Rattle.honest_run.proofs.Theorem.{honest-run}
+use Rattle.honest_run.proofs.Frames.{runFrom}
 
 -- a request stores at most a Commit and the entry's size
 little : (n p size s j : ℕ) → storedTo n p size s j ≤ j * (2552 + size)
@@ -60,7 +61,7 @@ memory =
 abbrev first : Input
 first = startWrite memory entry (replicate 32 0)
 
-abbrev zeros-first : NewNetwork
+abbrev zeros-first : NewWorld
 zeros-first =
     record {
       users = λ a. record {
@@ -73,8 +74,8 @@ zeros-first =
       servers = λ s. record { author = 0; digest = replicate 32 0; store = replicate 8000 0; digest-size = length-replicate {A = ℕ} 32 0 };
     }
 
-abbrev start : Run
-start = runOf small zeros-first []
+abbrev start : Run Network
+start = runFrom small zeros-first []
 
 range : InRange small
 range =
@@ -88,7 +89,7 @@ range =
     }
 
 new : NewWrite small start (start .network .users 1 .state .kept) entry
-unfolding runOf newNetwork newUser commitNumber targetFits strikes lg leastFrom reaches isFull highestFull
+unfolding runOf newNetwork newServer newUser commitNumber targetFits strikes lg leastFrom reaches isFull highestFull
 new =
     record {
       number = omega arith;
@@ -126,14 +127,14 @@ five : countOf small start 1 first ≡ 5
 unfolding runOf newNetwork newUser answersOf updateAnswers writeAnswers lg leastFrom reaches isFull highestFull
 five = refl
 
-pub first-write-ends : (handed small (start .network) 1 first 5 .code ≡ 0) × (handed small (start .network) 1 first 5 .ended ≡ true)
-    × (networkAfter small (start .network) 1 first 5 .users 1 .state .kept .version ≡ 1)
-unfolding HonestRun AllValid NotRefused Serves Reaches runOf
+pub first-write-ends : (handed (inRecords small) (start .network) 1 first 5 .code ≡ 0) × (handed (inRecords small) (start .network) 1 first 5 .ended ≡ true)
+    × (networkAfter (inRecords small) (start .network) 1 first 5 .users 1 .state .kept .version ≡ 1)
+unfolding HonestRun CallsServe AllValid NotRefused Serves Reaches runOf
 first-write-ends =
     let h = honest-run small range zeros-first [] tt 1 first valid in
     let n = h .0 5 (omega (arith, five)) in
     let e = ap (eqb 5) five in
-    (n .0, n .1 ∙ e, ap (λ k. networkAfter small (start .network) 1 first k .users 1 .state .kept .version) (sym five) ∙ h .1 .0)
+    (n .0, n .1 ∙ e, ap (λ k. networkAfter (inRecords small) (start .network) 1 first k .users 1 .state .kept .version) (sym five) ∙ h .1 .0)
 
 -- An Update whose request buffer is too short is refused at its start, and the same Write is valid after it.
 abbrev empty : Lent
@@ -152,12 +153,12 @@ too-short s σ m short =
     omega arith)
     (λ e z. absurd (eqb-false code 0 e z))
 
-early-refused : handed small (start .network) 1 early 0 .code ≡ 0 → ⊥
+early-refused : handed (inRecords small) (start .network) 1 early 0 .code ≡ 0 → ⊥
 unfolding handed userStep stepped
 early-refused = too-short (settingsIn small 1) (start .network .users 1 .state) empty (omega arith)
 
-abbrev later : Run
-later = runOf small zeros-first (calls 1 early 0 false ∷ [])
+abbrev later : Run Network
+later = runFrom small zeros-first (calls 1 early 0 false ∷ [])
 
 -- every user is new still
 user-new : (a : ℕ) → later .network .users a ≡ start .network .users a
@@ -169,14 +170,17 @@ unfolding runOf newNetwork newUser
 shut a = ap (λ (u : User). u .state .kept .opened) (user-new a)
 
 new-later : NewWrite small later (later .network .users 1 .state .kept) entry
-unfolding runOf doAct wrote networkAfter steps
+unfolding runOf doAct networkAfter steps
 new-later =
-    record {
+    subst
+    (λ log. NewWrite small (record { network = later .network; log = log; begun = later .begun }) (later .network .users 1 .state .kept) entry)
+    (sym (log-same start 1 early (handed (inRecords small) (start .network) 1 early 0) early-refused))
+    (record {
       number = subst (λ (u : User). u .state .kept .number < 1024) (sym (user-new 1)) (new .number);
       position = new .position;
       target = new .target;
       room = new .room;
-    }
+    })
 
 valid-later : ValidCall small later 1 first
 unfolding Alone ValidInput
@@ -197,8 +201,8 @@ valid-later =
           };
     }
 
-pub write-after-refusal : (handed small (start .network) 1 early 0 .code ≡ 0 → ⊥) × NotRefused small later 1 first
-unfolding HonestRun AllValid Refused
+pub write-after-refusal : (handed (inRecords small) (start .network) 1 early 0 .code ≡ 0 → ⊥) × NotRefused (countOf small later 1 first) (handed (inRecords small) (later .network) 1 first)
+unfolding HonestRun CallsServe AllValid Refused
 write-after-refusal =
-    let all : AllValid small zeros-first (calls 1 early 0 false ∷ []) = (inr (refl, inl (refl, early-refused)), tt) in
+    let all : AllValid small (runFrom small zeros-first) (calls 1 early 0 false ∷ []) = (inr (refl, inl (refl, early-refused)), tt) in
     (early-refused, honest-run small range zeros-first (calls 1 early 0 false ∷ []) all 1 first valid-later .0)

@@ -8,7 +8,7 @@ use lib.ListN.{length, length-append}
 use borrow.Author.Tests.{eq-eqb, ne-eqb, le-leb, eqb-true}
 use Rattle.sha256.proofs.Laws.{eqs-refl}
 use Rattle.tree.specs.Label.{owner}
-use Rattle.tree.specs.Message.{requestMark, begins, request, requestHeader, requestKind, requestLog, requestAuthor, requestPosition, requestLevel, requestBody, answer}
+use Rattle.tree.specs.Message.{markOf, begins, request, requestHeader, requestKind, requestLog, requestAuthor, requestPosition, requestLevel, requestBody, answer}
 use Rattle.tree.specs.Setup.{firstCode, userCount, inLog, listed}
 use Rattle.tree.proofs.Cases.{cases-eq, and-true}
 use Rattle.tree.proofs.Messages.{request-header-length, request-begins, request-kind, request-log, request-author, request-position, request-level, request-body}
@@ -20,7 +20,8 @@ use Rattle.server.proofs.Served.{code, Ready, setup-ready, Early, early-ready, 
 use Rattle.server.proofs.After.{recordsOf, ready-after}
 use Rattle.user.specs.declared.ask.Want.{Want}
 use Rattle.user.specs.Asking.{asks}
-use Rattle.honest_run.specs.Network.{HonestSetup, InRange, publicTo, settingsIn, Server, answerBytes, serverAfter}
+use Rattle.honest_run.specs.Network.{HonestSetup, InRange, publicTo, settingsIn, answerBytes}
+use Rattle.whole_run.specs.Runs.{Server, serverAfter}
 use Rattle.whole_run.proofs.Answers.{all-given}
 
 -- a server, from its fields
@@ -45,7 +46,7 @@ pub record Asked (c : HonestSetup) (a kind p l : ℕ) (body q : List ℕ) : Type
   pub position-is : requestPosition q ≡ p
   pub level-is : requestLevel q ≡ l
   pub body-is : requestBody q ≡ body
-  mark-is : begins requestMark q ≡ true
+  mark-is : begins (markOf 0x52) q ≡ true
   pub long : length q ≡ 26 + length body
 
 -- what a user asks for is read as it was meant

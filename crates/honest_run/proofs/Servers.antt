@@ -13,8 +13,8 @@ use Rattle.server.specs.Store.{records, recordsIn, sizes, whole, first}
 use Rattle.server.specs.Checks.{serverSettingsFit, headFits}
 use Rattle.server.proofs.Asked.{names-node, in-log}
 use Rattle.user_write.specs.Write.{commitNumber}
-use Rattle.whole_run.specs.Runs.{NewServer, newHead}
-use Rattle.honest_run.specs.Network.{HonestSetup, publicTo, Server}
+use Rattle.whole_run.specs.Runs.{NewServer, newHead, Server, newServer}
+use Rattle.honest_run.specs.Network.{HonestSetup, publicTo}
 use Rattle.honest_run.proofs.Invariant.{Item, texts, digestOf, bodyOf, recordOf, has, reached, HeadAt, ServerOk}
 use Rattle.honest_run.proofs.Log.{same-hash, same-digest}
 use Rattle.honest_run.proofs.Heads.{at-first, nodes-zero, label-zero, position-le}
@@ -112,8 +112,8 @@ server-commits c L w s x ok =
 
 -- At first: head (0, 0), and nothing stored.
 pub server-at-first : (c : HonestSetup) (L : ℕ → Item) (s : ℕ) (b : NewServer) → 1 ≤ s → serverSettingsFit (c .servers) s (publicTo c (c .count)) ≡ true
-    → ServerOk c L 0 0 s (record { head = newHead b; store = b .store; used = 0 })
-unfolding headFits whole records recordsIn sizes first newHead
+    → ServerOk c L 0 0 s (newServer b)
+unfolding newServer headFits whole records recordsIn sizes first newHead
 server-at-first c L s b low fits =
     record {
       ready = record { settings = fits; head = refl; within = omega arith; records = refl };

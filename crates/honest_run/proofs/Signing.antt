@@ -18,7 +18,8 @@ use Rattle.tree.proofs.Cases.{cases-eq, not-both}
 use Rattle.user.specs.declared.call.Kept.{Kept}
 use Rattle.user.specs.Outcome.{State}
 use Rattle.user_write.specs.Write.{commitSignature}
-use Rattle.honest_run.specs.Network.{HonestSetup, InRange, generatedKey, publicOf, publicTo, set}
+use Rattle.honest_run.specs.Network.{HonestSetup, InRange, generatedKey, publicOf, publicTo}
+use Rattle.whole_run.specs.Runs.{set}
 use Rattle.honest_run.proofs.Invariant.{Item, texts, digestOf, SignedOk, OpenOk, validAt}
 use Rattle.honest_run.proofs.Log.{same-hash, same-digest}
 use Rattle.honest_run.proofs.Frames.{set-same, set-other}

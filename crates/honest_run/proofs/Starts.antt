@@ -5,17 +5,17 @@ use mathlib.Core.List.{List, []}
 use Prim.Native.Nat.{ℕ, _≤_, _<_}
 use native.Mathlib.Omega.{arith}
 use native.Mathlib.Nat.{zero-add}
-use borrow.Author.Tests.{eq-eqb}
 use Rattle.sha256.proofs.Cases.{by-bool}
 use Rattle.tree.proofs.Cases.{not-both}
 use Rattle.user.specs.Asking.{keptFits, asking}
 use Rattle.user.specs.Outcome.{State, Lent, Outcome}
 use Rattle.user_update.specs.Update.{freshUpdate, updateGoes, updateStarted, updateWant, updateAnswers}
 use Rattle.user_update.proofs.UpdateRules.{by-goes, fresh-waits, goingOn}
-use Rattle.user_calls.specs.Calls.{updating, Input, startUpdate, startWrite, startRead, asCall, stepped, answer, Call}
-use Rattle.whole_run.specs.World.{User, userStep, returned, sentAfter, unlessRefused, newReads, after, userAfter}
-use Rattle.honest_run.specs.Network.{HonestSetup, InRange, settingsIn, Network, steps, Run, entryBegun}
-use Rattle.honest_run.specs.Claim.{Alone, ValidMemory, ValidUpdate, ValidInput, ValidCall, answersOf, countOf}
+use Rattle.user_calls.specs.Calls.{updating, Input, startUpdate, asCall, stepped, Call}
+use Rattle.whole_run.specs.World.{User, userStep, returned, newReads, after}
+use Rattle.whole_run.proofs.Refusals.{accepted-step}
+use Rattle.honest_run.specs.Network.{HonestSetup, InRange, settingsIn, Network, steps, Run, entriesOf}
+use Rattle.honest_run.specs.Claim.{Alone, ValidMemory, ValidInput, ValidCall, answersOf, countOf}
 use Rattle.honest_run.proofs.Invariant.{Item, Good}
 use Rattle.honest_run.proofs.Frames.{set-same, sent-for, memory-asks, handedOut}
 use Rattle.honest_run.proofs.Keys.{user-count, user-settings, kept-fits-shut, kept-fits-open}
@@ -23,7 +23,7 @@ use Rattle.honest_run.proofs.Answers.{Fit}
 use Rattle.honest_run.proofs.Updates.{fresh-update}
 use Rattle.honest_run.proofs.UpdateSteps.{update-starts}
 use Rattle.honest_run.proofs.Moves.{withUser, none-open, leaves-same}
-use Rattle.honest_run.proofs.Calls.{Updates, UpdateCall, CallOk, begunBy, Between, OnWay, Started}
+use Rattle.honest_run.proofs.Calls.{Updates, UpdateCall, CallOk, begunBy, Between, OnWay, Started, entryBegun}
 use Rattle.honest_run.proofs.Steps.{on-way-from}
 
 -- what a user keeps is in range
@@ -49,16 +49,8 @@ fit-user c range L w g a b x one last good =
       counted = user-count c range;
     }
 
--- a step with code 0 leaves the user with what the call left
-user-after : (u : User) (o : Outcome Call) (i : Input) → o .step .code ≡ 0 → userAfter u o i ≡ after u o
-unfolding userAfter unlessRefused
-user-after u o (startUpdate m) z = rw (eq-eqb (o .step .code) 0 z)
-user-after u o (startWrite m entry randomizer) z = rw (eq-eqb (o .step .code) 0 z)
-user-after u o (startRead m i) z = rw (eq-eqb (o .step .code) 0 z)
-user-after u o (answer y) z = refl
-
 -- a start that leaves o, with what was kept, and has a request out: the call is on its way
-pub start-goes : (c : HonestSetup) (r : Run) (a : ℕ) (i : Input) (n : ℕ) (o : Outcome Call) (between : Between c r) → Alone (r .network) a → 0 < n
+pub start-goes : (c : HonestSetup) (r : Run Network) (a : ℕ) (i : Input) (n : ℕ) (o : Outcome Call) (between : Between c r) → Alone (r .network) a → 0 < n
     → stepped (settingsIn c a) (r .network .users a .state) (r .network .users a .lent) (r .network .users a .call) i ≡ o
     → o .step .code ≡ 0 → o .step .ended ≡ false → o .state ≡ r .network .users a .state
     → after (r .network .users a) o .reads ≡ r .network .users a .reads
@@ -69,13 +61,14 @@ start-goes c r a i n o between alone some is code ended state-same reads-same en
     let x = r .network in
     let u = x .users a in
     let g = between .g in
+    let passed = ap (λ (z : Outcome Call). z .step .code) is ∙ code in
     record {
       some = some;
-      code = ap (λ (z : Outcome Call). z .step .code) is ∙ code;
+      code = passed;
       ended = ap (λ (z : Outcome Call). z .step .ended) is ∙ ended;
       on-way =
           subst (λ (v : User). OnWay c r a i n (withUser x a v (x .servers)))
-          (sym (ap (λ (z : Outcome Call). userAfter u z i) is ∙ user-after u o i code))
+          (sym (accepted-step (settingsIn c a) u i passed ∙ ap (λ (z : Outcome Call). after u z) is))
           (on-way-from c r a i (between .log) (between .log) (between .w) g g n (r .begun) x (after u o) (x .servers) (between .good) alone
           (between .holds) refl (λ j h. refl)
           (leaves-same c (between .log) (between .w) g a (r .begun) x (between .good) alone (o .state) (x .servers) (begunBy r a i a) state-same
@@ -90,7 +83,7 @@ first-status c range a σ m =
     (λ e. not-both _ e (fresh-waits (c .servers) (σ .kept .version) (omega (arith, range .two)))) (λ _. refl)
 
 -- with nothing open and memory m: the Update that starts, a call of its own or a Write's
-pub first-updates : (c : HonestSetup) → InRange c → (r : Run) (a : ℕ) (between : Between c r) → Alone (r .network) a
+pub first-updates : (c : HonestSetup) → InRange c → (r : Run Network) (a : ℕ) (between : Between c r) → Alone (r .network) a
     → r .network .users a .state .kept .opened ≡ false → (m : Lent) → ValidMemory m
     → Updates c (between .log) (between .w) (between .g) a (r .network .users a .state) (m .hashes)
     (handedOut c a (updateWant (c .servers) (r .network .users a .state .kept .version) freshUpdate) [] (m .request)) freshUpdate
@@ -105,14 +98,14 @@ first-updates c range r a between alone shut m memory =
     }
 
 -- an Update
-module _ (c : HonestSetup) (range : InRange c) (r : Run) (a : ℕ) (m : Lent) (between : Between c r) (valid : ValidCall c r a (startUpdate m)) where
+module _ (c : HonestSetup) (range : InRange c) (r : Run Network) (a : ℕ) (m : Lent) (between : Between c r) (valid : ValidCall c r a (startUpdate m)) where
   abbrev user : User
   user = r .network .users a
 
   abbrev asks-first : Outcome Call
   asks-first = asCall updating (goingOn (settingsIn c a) (user .state) m freshUpdate)
 
-  input : ValidUpdate (user .state .kept) m
+  input : ValidMemory m × (user .state .kept .opened ≡ false)
   unfolding ValidInput
   input = valid .input
 
@@ -121,22 +114,22 @@ module _ (c : HonestSetup) (range : InRange c) (r : Run) (a : ℕ) (m : Lent) (b
 
   starts : updateStarted (settingsIn c a) (user .state) m ≡ goingOn (settingsIn c a) (user .state) m freshUpdate
   starts =
-      update-starts c (between .log) (between .w) a (user .state) m fit (input .shut) (input .memory .request) ∙ first-status c range a (user .state) m
+      update-starts c (between .log) (between .w) a (user .state) m fit (input .1) (input .0 .request) ∙ first-status c range a (user .state) m
 
   call : UpdateCall c (between .log) (between .w) (between .g) a (countOf c r a (startUpdate m)) (after user asks-first)
-  unfolding after answersOf freshUpdate asking sentAfter returned
+  unfolding after answersOf freshUpdate asking returned
   call =
       record {
         call = freshUpdate;
         is = refl;
-        memory = memory-asks m _ (input .memory);
-        updates = first-updates c range r a between (valid .alone) (input .shut) m (input .memory);
+        memory = memory-asks m _ (input .0);
+        updates = first-updates c range r a between (valid .alone) (input .1) m (input .0);
         count = zero-add _ ∙ ap (updateAnswers (c .servers) (user .state .kept .version)) (sym (between .holds .count));
       }
 
   -- a valid Update starts
   pub update-start : Started c r a (startUpdate m) (countOf c r a (startUpdate m))
-  unfolding stepped CallOk entryBegun answersOf updateAnswers asking after newReads
+  unfolding stepped CallOk entriesOf answersOf updateAnswers asking after newReads
   update-start =
       start-goes c r a (startUpdate m) (countOf c r a (startUpdate m)) asks-first between (valid .alone) (omega (arith, range .two))
       (ap (asCall updating) starts) refl refl refl refl (λ _. refl) call

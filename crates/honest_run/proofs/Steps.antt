@@ -14,7 +14,8 @@ use Rattle.user.specs.declared.call.Step.{Step}
 use Rattle.user.specs.Outcome.{State, Outcome}
 use Rattle.user_calls.specs.Calls.{Call, Input}
 use Rattle.whole_run.specs.World.{User, after}
-use Rattle.honest_run.specs.Network.{HonestSetup, Server, Network, arrives, Run, wrote, Written, answerBytes, reply}
+use Rattle.whole_run.specs.Runs.{Server}
+use Rattle.honest_run.specs.Network.{HonestSetup, Network, arrives, Run, wrote, Written, answerBytes, reply}
 use Rattle.honest_run.specs.Claim.{Alone, Serves, writtenAt, textAt}
 use Rattle.honest_run.proofs.Invariant.{Item, Good, digestOf}
 use Rattle.honest_run.proofs.Log.{same-digest, same-texts}
@@ -61,7 +62,7 @@ log-digest L w log holds z =
     same-digest L M w z (λ i h. ap₂ entryText (holds .author i h) (holds .entry i h)) ∙ ap (digest (textAt log)) (holds .count)
 
 -- the call goes on with user u and servers y, in the log M, of whose open write h requests have arrived
-pub on-way-from : (c : HonestSetup) (r : Run) (a : ℕ) (i : Input) (L M : ℕ → Item) (w g h left : ℕ) (b : ℕ → List ℕ) (x : Network) (u : User) (y : ℕ → Server)
+pub on-way-from : (c : HonestSetup) (r : Run Network) (a : ℕ) (i : Input) (L M : ℕ → Item) (w g h left : ℕ) (b : ℕ → List ℕ) (x : Network) (u : User) (y : ℕ → Server)
     → Good c L w g b x → Alone x a → Holds L w (r .log) → x .users a .reads ≡ r .network .users a .reads → ((j : ℕ) → j < w → L j ≡ M j)
     → Leaves c M w h a (begunBy r a i a) (u .state) y → u .reads ≡ x .users a .reads → CallOk c M w h a left u y i → OnWay c r a i left (withUser x a u y)
 on-way-from c r a i L M w g h left b x u y good alone holds reads old leaves same call =
@@ -79,7 +80,7 @@ on-way-from c r a i L M w g h left b x u y good alone holds reads old leaves sam
     }
 
 -- what the answer y to call k leaves, where the call goes on
-pub record GoesOn (c : HonestSetup) (r : Run) (a : ℕ) (i : Input) (left : ℕ) (x : Network) (k : Call) (y : List ℕ) : Type 0 where
+pub record GoesOn (c : HonestSetup) (r : Run Network) (a : ℕ) (i : Input) (left : ℕ) (x : Network) (k : Call) (y : List ℕ) : Type 0 where
   pub outcome : Outcome Call
   pub is : takenBy c x a k y ≡ outcome
   pub code : outcome .step .code ≡ 0
@@ -87,7 +88,7 @@ pub record GoesOn (c : HonestSetup) (r : Run) (a : ℕ) (i : Input) (left : ℕ)
   pub on-way : OnWay c r a i left (leaving c x a outcome)
 
 -- and where the call is over
-pub record Ends (c : HonestSetup) (r : Run) (a : ℕ) (i : Input) (x : Network) (k : Call) (y : List ℕ) : Type 0 where
+pub record Ends (c : HonestSetup) (r : Run Network) (a : ℕ) (i : Input) (x : Network) (k : Call) (y : List ℕ) : Type 0 where
   pub outcome : Outcome Call
   pub is : takenBy c x a k y ≡ outcome
   pub code : outcome .step .code ≡ 0
@@ -95,14 +96,14 @@ pub record Ends (c : HonestSetup) (r : Run) (a : ℕ) (i : Input) (x : Network) 
   pub over : Over c r a i (outcome .step) (leaving c x a outcome)
 
 -- the call goes on where answers are to come, and is over where none is
-pub step-taken : (c : HonestSetup) (r : Run) (a : ℕ) (i : Input) (left : ℕ) (x : Network) (k : Call) (y : List ℕ) → x .users a .call ≡ k
+pub step-taken : (c : HonestSetup) (r : Run Network) (a : ℕ) (i : Input) (left : ℕ) (x : Network) (k : Call) (y : List ℕ) → x .users a .call ≡ k
     → answerBytes (reply c x (x .users a .sent)) ≡ y → (0 < left → GoesOn c r a i left x k y) → (left ≡ 0 → Ends c r a i x k y)
     → Stepped c r a i left x
 step-taken c r a i left x k y called comes on ends =
     cases-eq left 0
     (λ e.
     let o = ends e in
-    let swap = exchange-is c x a y k (o .outcome) called comes (o .is) in
+    let swap = exchange-is c x a y k (o .outcome) called comes (o .is) (o .code) in
     record {
       code = ap (λ (s : Step). s .code) (swap .hands) ∙ o .code;
       ended = ap (λ (s : Step). s .ended) (swap .hands) ∙ o .ended ∙ sym (eq-eqb left 0 e);
@@ -114,7 +115,7 @@ step-taken c r a i left x k y called comes on ends =
     })
     (λ n.
     let o = on (omega (arith, n)) in
-    let swap = exchange-is c x a y k (o .outcome) called comes (o .is) in
+    let swap = exchange-is c x a y k (o .outcome) called comes (o .is) (o .code) in
     record {
       code = ap (λ (s : Step). s .code) (swap .hands) ∙ o .code;
       ended = ap (λ (s : Step). s .ended) (swap .hands) ∙ o .ended ∙ sym (ne-eqb left 0 n);
@@ -123,7 +124,7 @@ step-taken c r a i left x k y called comes on ends =
     })
 
 -- an answer to a call on its way
-module _ (c : HonestSetup) (r : Run) (a : ℕ) (i : Input) (left : ℕ) (x : Network) (o : OnWay c r a i (suc left) x) where
+module _ (c : HonestSetup) (r : Run Network) (a : ℕ) (i : Input) (left : ℕ) (x : Network) (o : OnWay c r a i (suc left) x) where
   -- the call goes on with what z leaves, and the log M
   pub goes-on : (M : ℕ → Item) (h : ℕ) (z : Outcome Call) → ((j : ℕ) → j < o .w → o .log j ≡ M j)
       → Leaves c M (o .w) h a (begunBy r a i a) (z .state) (arrives c x a .servers) → after (x .users a) z .reads ≡ x .users a .reads

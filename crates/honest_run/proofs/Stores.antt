@@ -29,7 +29,8 @@ use Rattle.server.proofs.Served.{Early}
 use Rattle.server.proofs.Theorems.{head-stays}
 use Rattle.server.proofs.After.{recordsOf, first-after-put}
 use Rattle.user.specs.Asking.{asks}
-use Rattle.honest_run.specs.Network.{HonestSetup, InRange, publicTo, settingsIn, Server, answerBytes, serverAfter}
+use Rattle.honest_run.specs.Network.{HonestSetup, InRange, publicTo, settingsIn, answerBytes}
+use Rattle.whole_run.specs.Runs.{Server, serverAfter}
 use Rattle.honest_run.proofs.Invariant.{Item, digestOf, bodyOf, recordOf, numberOf, has, reached, HeadAt, ServerOk, SignedOk, ItemOk}
 use Rattle.honest_run.proofs.Log.{digest-size}
 use Rattle.honest_run.proofs.Keys.{user-count}

@@ -25,11 +25,13 @@ use Rattle.user_write.specs.declared.call.Write.{Write}
 use Rattle.user_write.specs.Write.{withUpdate, targetFits, heldEntry, freshWrite, writeAsks, writeWaits, writeStarted, writeTaken, openingChecks, writeOpens}
 use Rattle.user_calls.specs.Calls.{Call, idle, updating, writing, Input, startUpdate, startWrite, asCall, taken, stepped}
 use Rattle.user_calls.proofs.Unchanged.{update-keeps}
-use Rattle.whole_run.specs.World.{Sent, User, returned, sentAfter, unlessRefused, userStep, after, userAfter}
+use Rattle.whole_run.specs.World.{Sent, User, returned, userStep, after}
+use Rattle.whole_run.specs.Runs.{NewWorld, Server, serverAfter, set}
 use Rattle.whole_run.proofs.Requests.{entry-sizes}
-use Rattle.honest_run.specs.Network.{HonestSetup, InRange, generatedKey, settingsIn, Server, Network, set, reply, answerBytes, serverAfter, arrives, steps, comesBack, networkAfter, handed, Act, Run, NewNetwork, runOf}
-use Rattle.honest_run.specs.Claim.{ValidMemory, ValidInput, ValidCall, answersOf, countOf, RefusedWrite, AllValid, NotRefused, Reaches, Serves, HonestRun}
-use Rattle.honest_run.proofs.Frames.{set-same, memory-holds}
+use Rattle.whole_run.proofs.Refusals.{accepted-step}
+use Rattle.honest_run.specs.Network.{HonestSetup, InRange, generatedKey, settingsIn, Network, reply, answerBytes, arrives, steps, comesBack, networkAfter, handed, Act, Run, entriesOf, inRecords}
+use Rattle.honest_run.specs.Claim.{ValidMemory, ValidInput, ValidCall, answersOf, countOf, RefusedWrite, AllValid, NotRefused, Reaches, Serves, CallsServe, HonestRun}
+use Rattle.honest_run.proofs.Frames.{set-same, memory-holds, runFrom}
 use Rattle.honest_run.proofs.Keys.{tree-size}
 use Rattle.honest_run.proofs.Opening.{write-starts, entry-held, write-waits, write-arrives, holding}
 use Rattle.honest_run.proofs.Exchanges.{exchanged, handedBy}
@@ -84,9 +86,8 @@ module _ (s : Settings) (entry : List ℕ) where
   goes-same : (u w : User) (y : Write) (σ : State) (o : Outcome Update) → o .step .code ≡ 0 → o .step .ended ≡ false
       → σ ≡ o .state → y .opened ≡ false → heldEntry y (o .lent .held) ≡ entry
       → Same entry (after u (asCall updating o)) (after w (asCall writing (writeWaits σ y o)))
-  unfolding after writeWaits returned heldEntry sentAfter
+  unfolding after writeWaits returned heldEntry
   goes-same u w y σ o z e same shut held =
-      let t = eq-eqb (o .step .code) 0 z in
       record {
         call = withUpdate y (o .call);
         updates = ap (λ (b : Bool). cond (b && eqb (o .step .code) 0) idle (updating (o .call))) e;
@@ -95,7 +96,7 @@ module _ (s : Settings) (entry : List ℕ) where
         held = held;
         same = same;
         lent-same = refl;
-        sent-same = rw t;
+        sent-same = refl;
       }
 
   -- what call k of user u makes of the answer a
@@ -113,23 +114,24 @@ module _ (s : Settings) (entry : List ℕ) where
     left-same = ap₂ (λ (σ : State) (m : Lent). updateTaken s σ m (o .call .update) a) (o .same) (o .lent-same)
 
     -- both take the same answer and go on
-    takes-on : left .step .code ≡ 0 → left .step .ended ≡ false → Same entry (after u (asCall updating left)) (after w (asCall writing took))
-    takes-on z e =
-        subst (λ (l : Outcome Write). Same entry (after u (asCall updating left)) (after w (asCall writing l)))
-        (sym (write-waits s (w .state) (w .lent) (o .call) a left (o .shut) left-same z e))
-        (goes-same u w (o .call) (w .state) left z e (o .same ∙ sym (state-stays s (u .state) (u .lent) (o .call .update) a e)) (o .shut)
-        (ap (heldEntry (o .call)) (update-keeps s (u .state) (u .lent) (o .call .update) a .held) ∙ o .held))
+    abbrev GoOn : Outcome Call → Outcome Call → Type 0
+    GoOn x y = x .step .code ≡ 0 → x .step .ended ≡ false → Same entry (after u x) (after w y) × (y .step .code ≡ 0)
 
-    takes : takesIn u a (u .call) .step .code ≡ 0 → takesIn u a (u .call) .step .ended ≡ false
-        → Same entry (after u (takesIn u a (u .call))) (after w (takesIn w a (w .call)))
+    takes-on : GoOn (asCall updating left) (asCall writing took)
+    unfolding writeWaits
+    takes-on z e =
+        subst (λ (l : Outcome Write). Same entry (after u (asCall updating left)) (after w (asCall writing l)) × (l .step .code ≡ 0))
+        (sym (write-waits s (w .state) (w .lent) (o .call) a left (o .shut) left-same z e)) (
+          goes-same u w (o .call) (w .state) left z e (o .same ∙ sym (state-stays s (u .state) (u .lent) (o .call .update) a e)) (o .shut)
+              (ap (heldEntry (o .call)) (update-keeps s (u .state) (u .lent) (o .call .update) a .held) ∙ o .held),
+          z,
+        )
+
+    takes : GoOn (takesIn u a (u .call)) (takesIn w a (w .call))
     unfolding taken
     takes =
-        subst
-        (λ k. takesIn u a k .step .code ≡ 0 → takesIn u a k .step .ended ≡ false → Same entry (after u (takesIn u a k)) (after w (takesIn w a (w .call))))
-        (sym (o .updates))
-        (subst
-        (λ k. left .step .code ≡ 0 → left .step .ended ≡ false → Same entry (after u (asCall updating left)) (after w (takesIn w a k)))
-        (sym (o .writes)) takes-on)
+        subst (λ k. GoOn (takesIn u a k) (takesIn w a (w .call))) (sym (o .updates))
+        (subst (λ k. GoOn (asCall updating left) (takesIn w a k)) (sym (o .writes)) takes-on)
 
     -- or it is the Update's last, and the Write would open
     last-on : left .step .code ≡ 0 → left .step .ended ≡ true → took .step .code ≡ firstCode (openingChecks (left .state .kept .version) entry)
@@ -177,38 +179,41 @@ module _ (c : HonestSetup) (a : ℕ) (entry : List ℕ) where
         ∙ ap (λ (y : Server). cond (eqb s (q .server)) (serverAfter (reply c u q)) y) (o .servers s)
 
     exchanged-alike : handedBy c u a .code ≡ 0 → handedBy c u a .ended ≡ false → Alike (exchanged c u a) (exchanged c w a)
-    unfolding steps arrives comesBack userStep userAfter stepped
+    unfolding steps arrives comesBack userStep stepped
     exchanged-alike z e =
         let s = settingsIn c a in
         let base = takes s entry (u .users a) (w .users a) (answerBytes (reply c u q)) (o .users) z e in
         let mine = userStep s (u .users a) (comesBack c u a) .user in
         let own = userStep s (w .users a) (comesBack c w a) .user in
-        let now : Same entry mine own =
-        subst (λ (l : ServeOutcome). Same entry mine (after (w .users a) (takesIn s entry (w .users a) (answerBytes l) (w .users a .call)))) (sym reply-same) base
-        in
+        let next : User = after (u .users a) (takesIn s entry (u .users a) (answerBytes (reply c u q)) (u .users a .call)) in
+        let left : ServeOutcome → Outcome Call = λ l. takesIn s entry (w .users a) (answerBytes l) (w .users a .call) in
+        let taken = ap (λ (l : ServeOutcome). left l .step .code) reply-same ∙ base .1 in
+        let last = accepted-step s (w .users a) (comesBack c w a) taken ∙ ap (λ (l : ServeOutcome). after (w .users a) (left l)) reply-same in
         record {
           users =
-              subst (λ (y : User). Same entry y (set (w .users) a own a)) (sym (set-same (u .users) a mine))
-              (subst (λ (y : User). Same entry mine y) (sym (set-same (w .users) a own)) now);
+              subst (λ (y : User). Same entry y (set (w .users) a own a))
+              (sym (set-same (u .users) a mine ∙ accepted-step s (u .users a) (comesBack c u a) z))
+              (subst (λ (y : User). Same entry next y) (sym (set-same (w .users) a own ∙ last)) (base .0));
           servers = arrives-same;
         }
 
     last-code : handedBy c u a .code ≡ 0 → handedBy c u a .ended ≡ true
         → handedBy c w a .code ≡ firstCode (openingChecks (exchanged c u a .users a .state .kept .version) entry)
-    unfolding steps arrives comesBack userStep userAfter stepped after
+    unfolding steps arrives comesBack userStep stepped after
     last-code z e =
         let s = settingsIn c a in
         let mine = userStep s (u .users a) (comesBack c u a) .user in
         ap (λ (l : ServeOutcome). takesIn s entry (w .users a) (answerBytes l) (w .users a .call) .step .code) reply-same
         ∙ last s entry (u .users a) (w .users a) (answerBytes (reply c u q)) (o .users) z e
-        ∙ ap (λ (y : User). firstCode (openingChecks (y .state .kept .version) entry)) (sym (set-same (u .users) a mine))
+        ∙ ap (λ (y : User). firstCode (openingChecks (y .state .kept .version) entry))
+        (sym (set-same (u .users) a mine ∙ accepted-step s (u .users a) (comesBack c u a) z))
 
 -- a Write of user a, whose Update would be valid: beside it an Update with the same memory, once the entry is in it
-module _ (c : HonestSetup) (range : InRange c) (r : Run) (a : ℕ) (m : Lent) (entry randomizer : List ℕ) (memory : ValidMemory m)
+module _ (c : HonestSetup) (range : InRange c) (r : Run Network) (a : ℕ) (m : Lent) (entry randomizer : List ℕ) (memory : ValidMemory m)
     (shut : r .network .users a .state .kept .opened ≡ false) (key : m .key ≡ generatedKey c a) (shaped : entryFits entry ≡ true)
     (ruled : rulesKept entry ≡ true) (number : r .network .users a .state .kept .number < 1024)
-    (not-refused : NotRefused c r a (startUpdate (holding m entry)))
-    (serves : Serves r a (networkAfter c (r .network) a (startUpdate (holding m entry)) (countOf c r a (startUpdate m)) .users a) (startUpdate m)) where
+    (not-refused : NotRefused (countOf c r a (startUpdate (holding m entry))) (handed (inRecords c) (r .network) a (startUpdate (holding m entry))))
+    (serves : Serves r a (networkAfter (inRecords c) (r .network) a (startUpdate (holding m entry)) (countOf c r a (startUpdate m)) .users a) (startUpdate m)) where
   abbrev x : Network
   x = r .network
 
@@ -229,7 +234,7 @@ module _ (c : HonestSetup) (range : InRange c) (r : Run) (a : ℕ) (m : Lent) (e
   some = omega (arith, range .two, answers-least (c .servers) (user .state .kept .version) (length (r .log)))
 
   -- the Update's steps have code 0, and only the last one ends it
-  goes-well : (k : ℕ) → k ≤ n → (handed c x a j k .code ≡ 0) × (handed c x a j k .ended ≡ eqb k n)
+  goes-well : (k : ℕ) → k ≤ n → (handed (inRecords c) x a j k .code ≡ 0) × (handed (inRecords c) x a j k .ended ≡ eqb k n)
   unfolding NotRefused answersOf
   goes-well = not-refused
 
@@ -262,7 +267,7 @@ module _ (c : HonestSetup) (range : InRange c) (r : Run) (a : ℕ) (m : Lent) (e
       ∙ ap (writeWaits (user .state) fresh) (sym (goes .0))
 
   -- its start is not refused
-  write-accepted : handed c x a (startWrite m entry randomizer) 0 .code ≡ 0
+  write-accepted : handed (inRecords c) x a (startWrite m entry randomizer) 0 .code ≡ 0
   unfolding handed userStep stepped writeWaits
   write-accepted = ap (λ (o : Outcome Write). o .step .code) starts ∙ accepted
 
@@ -279,13 +284,13 @@ module _ (c : HonestSetup) (range : InRange c) (r : Run) (a : ℕ) (m : Lent) (e
       ∙ entry-held (user .state .kept) entry randomizer (m .held) (memory .held) (entry-sizes entry shaped .1)
 
   first : Alike c a entry (steps c x a j) (steps c x a i)
-  unfolding steps userStep userAfter stepped unlessRefused handed freshWrite
+  unfolding steps userStep stepped handed freshWrite
   first =
       let mine = userStep (settingsIn c a) user j .user in
       let own = userStep (settingsIn c a) user i .user in
       let next : User = after user (asCall updating update) in
-      let e : mine ≡ next = rw (eq-eqb (update .step .code) 0 accepted) in
-      let d : own ≡ after user (asCall writing start) = rw (eq-eqb (start .step .code) 0 write-accepted) in
+      let e : mine ≡ next = accepted-step (settingsIn c a) user j accepted in
+      let d : own ≡ after user (asCall writing start) = accepted-step (settingsIn c a) user i write-accepted in
       record {
         users =
             subst (λ (y : User). Same entry y (steps c x a i .users a)) (sym (set-same (x .users) a mine ∙ e))
@@ -295,46 +300,47 @@ module _ (c : HonestSetup) (range : InRange c) (r : Run) (a : ℕ) (m : Lent) (e
         servers = λ s. refl;
       }
 
-  alike : (k : ℕ) → k < n → Alike c a entry (networkAfter c x a j k) (networkAfter c x a i k)
+  alike : (k : ℕ) → k < n → Alike c a entry (networkAfter (inRecords c) x a j k) (networkAfter (inRecords c) x a i k)
   unfolding networkAfter handed
   alike zero h = first
   alike (suc k) h =
       let z = goes-well (suc k) (omega arith) in
-      exchanged-alike c a entry (networkAfter c x a j k) (networkAfter c x a i k) (alike k (omega arith)) (z .0)
+      exchanged-alike c a entry (networkAfter (inRecords c) x a j k) (networkAfter (inRecords c) x a i k) (alike k (omega arith)) (z .0)
       (z .1 ∙ ne-eqb (suc k) n (λ e. omega arith))
 
   -- the code of the answer that would be the Update's last
   last-answer : (k : ℕ) → n ≡ suc k
-      → handed c x a i (suc k) .code ≡ firstCode (openingChecks (networkAfter c x a j (suc k) .users a .state .kept .version) entry)
+      → handed (inRecords c) x a i (suc k) .code ≡ firstCode (openingChecks (networkAfter (inRecords c) x a j (suc k) .users a .state .kept .version) entry)
   unfolding networkAfter handed
   last-answer k e =
       let z = goes-well (suc k) (omega arith) in
-      last-code c a entry (networkAfter c x a j k) (networkAfter c x a i k) (alike k (omega arith)) (z .0) (z .1 ∙ eq-eqb (suc k) n (sym e))
+      last-code c a entry (networkAfter (inRecords c) x a j k) (networkAfter (inRecords c) x a i k) (alike k (omega arith)) (z .0) (z .1 ∙ eq-eqb (suc k) n (sym e))
 
-  opening-code : handed c x a (startWrite m entry randomizer) n .code ≡ firstCode (openingChecks (length (r .log)) entry)
+  opening-code : handed (inRecords c) x a (startWrite m entry randomizer) n .code ≡ firstCode (openingChecks (length (r .log)) entry)
   unfolding Serves Reaches
   opening-code =
       let e : n ≡ suc (n - 1) = omega (arith, some) in
-      subst (λ k. handed c x a i k .code ≡ firstCode (openingChecks (networkAfter c x a j k .users a .state .kept .version) entry)) (sym e)
+      subst (λ k. handed (inRecords c) x a i k .code ≡ firstCode (openingChecks (networkAfter (inRecords c) x a j k .users a .state .kept .version) entry)) (sym e)
       (last-answer (n - 1) e)
       ∙ ap (λ v. firstCode (openingChecks v entry)) (serves .0)
 
 -- After every list of calls: a Write that is valid but for its target or the log's limit is refused at the end of its Update.
-pub refused-write : (c : HonestSetup) → InRange c → (b : NewNetwork) (xs : List Act) → AllValid c b xs
-    → (a : ℕ) (m : Lent) (entry randomizer : List ℕ) → ValidCall c (runOf c b xs) a (startUpdate m) → m .key ≡ generatedKey c a → entryFits entry ≡ true
+pub refused-write : (c : HonestSetup) → InRange c → (b : NewWorld) (xs : List Act) → AllValid c (runFrom c b) xs
+    → (a : ℕ) (m : Lent) (entry randomizer : List ℕ) → ValidCall c (runFrom c b xs) a (startUpdate m) → m .key ≡ generatedKey c a → entryFits entry ≡ true
     → rulesKept entry ≡ true
-    → runOf c b xs .network .users a .state .kept .number < 1024
-    → (length (runOf c b xs .log) < 1048576 → targetFits (length (runOf c b xs .log)) entry ≡ false)
-    → RefusedWrite c (runOf c b xs) a (startWrite m entry randomizer) (countOf c (runOf c b xs) a (startUpdate m))
-unfolding HonestRun RefusedWrite ValidInput openingChecks firstCode answersOf Serves
+    → runFrom c b xs .network .users a .state .kept .number < 1024
+    → (length (runFrom c b xs .log) < 1048576 → targetFits (length (runFrom c b xs .log)) entry ≡ false)
+    → RefusedWrite c (runFrom c b xs) a (startWrite m entry randomizer) (countOf c (runFrom c b xs) a (startUpdate m))
+unfolding HonestRun CallsServe RefusedWrite entriesOf ValidInput openingChecks firstCode answersOf Serves
 refused-write c range b xs all a m entry randomizer valid key shaped ruled number bad =
-    let r = runOf c b xs in
-    let memory = valid .input .memory in
-    let shut = valid .input .shut in
-    let too : ValidCall c (runOf c b xs) a (startUpdate (holding m entry)) =
-    record { one = valid .one; listed = valid .listed; alone = valid .alone; input = record { memory = memory-holds m entry memory; shut = shut } } in
+    let r = runFrom c b xs in
+    let memory = valid .input .0 in
+    let shut = valid .input .1 in
+    let too : ValidCall c (runFrom c b xs) a (startUpdate (holding m entry)) =
+    record { one = valid .one; listed = valid .listed; alone = valid .alone; input = (memory-holds m entry memory, shut) } in
     let h = honest-run c range b xs all a (startUpdate (holding m entry)) too in
     let code = opening-code c range r a m entry randomizer memory shut key shaped ruled number (h .0) (h .1) in (
+      λ e. let z : _≡_ {A = ℕ} 1 0 = ap length e in omega arith,
       write-accepted c range r a m entry randomizer memory shut key shaped ruled number (h .0) (h .1),
       shut,
       cases-le 1048576 (length (r .log)) (λ l. inl (code ∙ rw (le-ltb (length (r .log)) 1048576 l)))

@@ -8,11 +8,11 @@ use Rattle.sha256.proofs.Cases.{by-bool}
 use Rattle.tree.proofs.Cases.{not-both}
 use Rattle.user.specs.declared.call.Step.{Step}
 use Rattle.user_calls.specs.Calls.{Input, startUpdate, startWrite, startRead, answer}
-use Rattle.whole_run.specs.Runs.{NewUser, newUser, newHead}
-use Rattle.honest_run.specs.Network.{HonestSetup, InRange, Network, reply, serverAfter, arrives, newNetwork, Run, NewNetwork, runOf}
-use Rattle.honest_run.specs.Claim.{ValidInput, ValidCall, countOf, HonestRun}
+use Rattle.whole_run.specs.Runs.{NewUser, newUser, newHead, NewWorld, serverAfter}
+use Rattle.honest_run.specs.Network.{HonestSetup, InRange, Network, reply, arrives, newNetwork, Run, runOf}
+use Rattle.honest_run.specs.Claim.{ValidInput, ValidCall, countOf, CallsServe, HonestRun}
 use Rattle.honest_run.proofs.Invariant.{Item, Good, KeptOk}
-use Rattle.honest_run.proofs.Frames.{set-other}
+use Rattle.honest_run.proofs.Frames.{set-other, runFrom}
 use Rattle.honest_run.proofs.Keys.{server-settings}
 use Rattle.honest_run.proofs.Servers.{server-at-first}
 use Rattle.honest_run.proofs.Moves.{good-same}
@@ -43,7 +43,7 @@ first-user c a b =
       open-ok = λ t. not-both false t refl;
     }
 
-first-between : (c : HonestSetup) → InRange c → (b : NewNetwork) → Between c (runOf c b [])
+first-between : (c : HonestSetup) → InRange c → (b : NewWorld) → Between c (runFrom c b [])
 unfolding runOf newNetwork newUser newHead
 first-between c range b =
     record {
@@ -64,7 +64,7 @@ first-between c range b =
     }
 
 -- a call that has ended has no request out
-late-over : (c : HonestSetup) (r : Run) (a : ℕ) (i : Input) (z : Step) (x : Network) (o : Over c r a i z x)
+late-over : (c : HonestSetup) (r : Run Network) (a : ℕ) (i : Input) (z : Step) (x : Network) (o : Over c r a i z x)
     → Good c (o .log) (o .w) (o .g) (begunBy r a i) (arrives c x a)
 unfolding arrives
 late-over c r a i z x o =
@@ -73,14 +73,14 @@ late-over c r a i z x o =
     (λ j _. refl)
 
 module _ (c : HonestSetup) (range : InRange c) where
-  start : (r : Run) (a : ℕ) (i : Input) → Between c r → ValidCall c r a i → Started c r a i (countOf c r a i)
+  start : (r : Run Network) (a : ℕ) (i : Input) → Between c r → ValidCall c r a i → Started c r a i (countOf c r a i)
   unfolding ValidInput
   start r a (startUpdate m) between valid = update-start c range r a m between valid
   start r a (startWrite m entry randomizer) between valid = write-start c range r a m entry randomizer between valid
   start r a (startRead m i) between valid = read-start c range r a m i between valid
   start r a (answer y) between valid = absurd (valid .input)
 
-  step : (r : Run) (a : ℕ) (i : Input) (left : ℕ) (x : Network) → ValidCall c r a i → OnWay c r a i (suc left) x → Stepped c r a i left x
+  step : (r : Run Network) (a : ℕ) (i : Input) (left : ℕ) (x : Network) → ValidCall c r a i → OnWay c r a i (suc left) x → Stepped c r a i left x
   unfolding ValidInput
   step r a (startUpdate m) left x valid o = update-step c range r a m left x (valid .one) (valid .listed) o
   step r a (startWrite m entry randomizer) left x valid o =
@@ -91,7 +91,7 @@ module _ (c : HonestSetup) (range : InRange c) where
   step r a (startRead m i) left x valid o = read-step c range r a m i left x (valid .one) (valid .listed) o
   step r a (answer y) left x valid o = absurd (valid .input)
 
-  late : (r : Run) (a : ℕ) (i : Input) (left : ℕ) (x : Network) → ValidCall c r a i → (o : OnWay c r a i (suc left) x)
+  late : (r : Run Network) (a : ℕ) (i : Input) (left : ℕ) (x : Network) → ValidCall c r a i → (o : OnWay c r a i (suc left) x)
       → Late c (o .log) (o .w) (begunBy r a i) (arrives c x a)
   unfolding ValidInput
   late r a (startUpdate m) left x valid o = update-late c range r a m left x (valid .one) (valid .listed) o
@@ -105,7 +105,7 @@ module _ (c : HonestSetup) (range : InRange c) where
 
 -- No valid call is refused, each ends at its count of answers, and with what it is for.
 pub honest-run : HonestRun
-unfolding HonestRun
+unfolding HonestRun CallsServe
 honest-run c range b xs valid a i call =
     every-call c (start c range) (step c range) (late c range) (λ r a i z x o. late-over c r a i z x o)
     (refused-leaves c range) b (first-between c range b) xs valid a i call

@@ -83,7 +83,7 @@ module _ (c : HonestSetup) (L : ℕ → Item) (w a : ℕ) (σ : State) (m : Lent
   ends-so all = by-goes (settingsIn c a) σ m u (λ l. l ≡ endedWith σ m u) (λ _. refl) (λ e. not-both _ (ended-so all) e)
 
 -- a right answer comes, and is taken
-module _ (c : HonestSetup) (range : InRange c) (r : Run) (a : ℕ) (i : Input) (left : ℕ) (x : Network) (one : 1 ≤ a) (last : a ≤ c .count)
+module _ (c : HonestSetup) (range : InRange c) (r : Run Network) (a : ℕ) (i : Input) (left : ℕ) (x : Network) (one : 1 ≤ a) (last : a ≤ c .count)
     (o : OnWay c r a i left x) (u : Update) (memory : ValidMemory (x .users a .lent))
     (ups : Updates c (o .log) (o .w) (o .g) a (x .users a .state) (x .users a .lent .hashes) (x .users a .sent) u) where
   abbrev σ : State

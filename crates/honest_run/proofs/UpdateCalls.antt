@@ -11,8 +11,8 @@ use Rattle.user_update.specs.declared.call.Update.{Update}
 use Rattle.user_update.specs.Update.{arrived, updateAnswers}
 use Rattle.user_update.proofs.UpdateRules.{endedWith, goingOn}
 use Rattle.user_calls.specs.Calls.{Call, updating, startUpdate, asCall, taken}
-use Rattle.whole_run.specs.World.{User, sentBy, returned, sentAfter, newReads, after}
-use Rattle.honest_run.specs.Network.{HonestSetup, InRange, settingsIn, Network, arrives, Run, wrote}
+use Rattle.whole_run.specs.World.{User, sentBy, returned, newReads, after}
+use Rattle.honest_run.specs.Network.{HonestSetup, InRange, settingsIn, Network, arrives, Run, wrote, entriesOf}
 use Rattle.honest_run.specs.Claim.{Reaches, Serves}
 use Rattle.honest_run.proofs.Invariant.{digestOf, ServerOk}
 use Rattle.honest_run.proofs.Frames.{memory-collects, memory-asks}
@@ -22,7 +22,7 @@ use Rattle.honest_run.proofs.Calls.{UpdateCall, CallOk, Holds, begunBy,
 use Rattle.honest_run.proofs.Steps.{GoesOn, Ends, is-over, pull-late, log-digest, step-taken, pull-goes-on}
 use Rattle.honest_run.proofs.UpdateAnswers.{Answered, answered}
 
-module _ (c : HonestSetup) (range : InRange c) (r : Run) (a : ℕ) (m : Lent) (left : ℕ) (x : Network) (one : 1 ≤ a) (last : a ≤ c .count)
+module _ (c : HonestSetup) (range : InRange c) (r : Run Network) (a : ℕ) (m : Lent) (left : ℕ) (x : Network) (one : 1 ≤ a) (last : a ≤ c .count)
     (o : OnWay c r a (startUpdate m) (suc left) x) where
   abbrev who : User
   who = x .users a
@@ -55,7 +55,7 @@ module _ (c : HonestSetup) (range : InRange c) (r : Run) (a : ℕ) (m : Lent) (l
     going = asCall updating (goingOn (settingsIn c a) (who .state) collected next)
 
     then-call : UpdateCall c (o .log) (o .w) (o .g) a left (after who going)
-    unfolding after asking sentAfter returned
+    unfolding after asking returned
     then-call =
         record {
           call = next;
@@ -112,7 +112,7 @@ module _ (c : HonestSetup) (range : InRange c) (r : Run) (a : ℕ) (m : Lent) (l
           within = o .good .within;
         }
 
-    reaches : Reaches (r .log) (after who ended)
+    reaches : Reaches (r .log) (after who ended .state .kept)
     unfolding Reaches after
     reaches = (
       there .version ∙ o .holds .count,
@@ -123,7 +123,7 @@ module _ (c : HonestSetup) (range : InRange c) (r : Run) (a : ℕ) (m : Lent) (l
     )
 
     update-ends : Ends c r a (startUpdate m) x (updating now) (answer-now .given)
-    unfolding taken wrote Serves after sentAfter sentBy done
+    unfolding taken wrote entriesOf returned Serves after sentBy done
     update-ends =
         record {
           outcome = ended;

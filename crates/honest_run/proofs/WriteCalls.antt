@@ -15,8 +15,9 @@ use Rattle.user_write.specs.declared.call.Write.{Write}
 use Rattle.user_write.specs.Write.{withUpdate, openedAt, opening, writeWaits, writeTaken, writeAnswers, writeAsks}
 use Rattle.user_write.proofs.Writes.{commit-positive}
 use Rattle.user_calls.specs.Calls.{Call, writing, Input, startWrite, asCall, taken}
-use Rattle.whole_run.specs.World.{User, returned, sentAfter, newReads, after}
-use Rattle.honest_run.specs.Network.{HonestSetup, InRange, settingsIn, Server, Network, set, arrives, Run}
+use Rattle.whole_run.specs.World.{User, returned, newReads, after}
+use Rattle.whole_run.specs.Runs.{Server, set}
+use Rattle.honest_run.specs.Network.{HonestSetup, InRange, settingsIn, Network, arrives, Run}
 use Rattle.honest_run.specs.Claim.{storedTo, storedBy}
 use Rattle.honest_run.proofs.Invariant.{Item, ServerOk, RoomLeft}
 use Rattle.honest_run.proofs.Frames.{set-other}
@@ -30,7 +31,7 @@ use Rattle.honest_run.proofs.OpenRequests.{AsksOpen, open-leaves, open-
 use Rattle.honest_run.proofs.UpdateAnswers.{Answered, answered}
 
 -- the Update of a Write
-module _ (c : HonestSetup) (range : InRange c) (r : Run) (a : ℕ) (m : Lent) (entry randomizer : List ℕ) (left : ℕ) (x : Network) (one : 1 ≤ a)
+module _ (c : HonestSetup) (range : InRange c) (r : Run Network) (a : ℕ) (m : Lent) (entry randomizer : List ℕ) (left : ℕ) (x : Network) (one : 1 ≤ a)
     (last : a ≤ c .count) (o : OnWay c r a (startWrite m entry randomizer) (suc left) x)
     (call : WriteCall c (o .log) (o .w) (o .g) a (suc left) entry (x .users a) (x .servers)) (closed : call .call .opened ≡ false) where
   abbrev i : Input
@@ -68,7 +69,7 @@ module _ (c : HonestSetup) (range : InRange c) (r : Run) (a : ℕ) (m : Lent) (e
         write-waits (settingsIn c a) (who .state) (who .lent) now (answer-now .given) asking-on closed (answer-now .asks-next more) refl refl
 
     then-open : ToOpen c (o .log) (o .w) (o .g) a left entry (after who going) (arrives c x a .servers) (withUpdate now next)
-    unfolding after writeWaits sentAfter asking
+    unfolding after writeWaits asking
     then-open =
         record {
           updates = answer-now .updates more;

@@ -16,9 +16,9 @@ use Rattle.user_write.specs.declared.call.Write.{Write}
 use Rattle.user_write.specs.Write.{withUpdate, freshWrite, writeWaits, writeStarted, writeAnswers}
 use Rattle.user_write.proofs.Writes.{commit-positive}
 use Rattle.user_calls.specs.Calls.{writing, startWrite, asCall, stepped}
-use Rattle.whole_run.specs.World.{User, returned, sentAfter, newReads, after}
+use Rattle.whole_run.specs.World.{User, returned, newReads, after}
 use Rattle.whole_run.proofs.Requests.{entry-sizes}
-use Rattle.honest_run.specs.Network.{HonestSetup, InRange, settingsIn, Run, entryBegun}
+use Rattle.honest_run.specs.Network.{HonestSetup, InRange, settingsIn, Run, entriesOf, Network}
 use Rattle.honest_run.specs.Claim.{ValidWrite, ValidInput, ValidCall, answersOf, countOf}
 use Rattle.honest_run.proofs.Invariant.{OpenOk}
 use Rattle.honest_run.proofs.Frames.{memory-holds}
@@ -30,7 +30,7 @@ use Rattle.honest_run.proofs.Calls.{ToOpen, WriteCall, CallOk, Between,
 use Rattle.honest_run.proofs.OpenRequests.{AsksOpen, asksNext, asks-next, asks-call}
 use Rattle.honest_run.proofs.Starts.{fit-user, first-status, start-goes, first-updates}
 
-module _ (c : HonestSetup) (range : InRange c) (r : Run) (a : ℕ) (m : Lent) (entry randomizer : List ℕ) (between : Between c r)
+module _ (c : HonestSetup) (range : InRange c) (r : Run Network) (a : ℕ) (m : Lent) (entry randomizer : List ℕ) (between : Between c r)
     (valid : ValidCall c r a (startWrite m entry randomizer)) where
   abbrev user : User
   user = r .network .users a
@@ -82,7 +82,7 @@ module _ (c : HonestSetup) (range : InRange c) (r : Run) (a : ℕ) (m : Lent) (e
     next = after user (asCall writing waiting)
 
     to-open : ToOpen c (between .log) (between .w) (between .g) a n entry next (r .network .servers) (withUpdate fresh freshUpdate)
-    unfolding after writeWaits answersOf updateAnswers freshUpdate sentAfter asking
+    unfolding after writeWaits answersOf updateAnswers freshUpdate asking
     to-open =
         let z : 0 < c .servers = omega (arith, range .two) in
         let e = sym (between .holds .count) in
@@ -144,7 +144,7 @@ module _ (c : HonestSetup) (range : InRange c) (r : Run) (a : ℕ) (m : Lent) (e
         ∙ asks-next c range (between .log) (between .w) (between .g) a n entry (user .state) (holding m entry) fresh asks
 
     resumed-start : Started c r a (startWrite m entry randomizer) n
-    unfolding stepped CallOk asking after newReads entryBegun
+    unfolding stepped CallOk asking after newReads entriesOf
     resumed-start =
         start-goes c r a (startWrite m entry randomizer) n (asCall writing reserving) between (valid .alone) some (ap (asCall writing) resumed-is)
         refl refl refl refl (λ o. given .resumes o)
