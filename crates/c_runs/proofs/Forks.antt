@@ -1,0 +1,119 @@
+-- Every list of calls of the exported functions is a list of document 01's steps; so the fork bound holds of it.
+use mathlib.Core.Path.{_≡_, refl, sym, _∙_, ap, ap₂, subst, fun-ext}
+use mathlib.Core.Bool.{Bool, cond}
+use mathlib.Core.List.{List, [], _∷_, _++_}
+use Prim.Native.Nat.{ℕ}
+use lib.Dec.{eqb}
+use lib.ListN.{length}
+use Rattle.tree.specs.Setup.{Settings, settings}
+use Rattle.tree.proofs.Cases.{by-eqb}
+use Rattle.user_calls.specs.Calls.{Input, startUpdate, startWrite, startRead, answer}
+use Rattle.server.specs.declared.Head.{Head}
+use Rattle.server.specs.Serve.{served}
+use Rattle.c_layout.specs.Server.{headOf, resultOf, serverAnswered}
+use Rattle.whole_run.specs.World.{Setup, settingsFor, Event, User, userStep, dropped}
+use Rattle.whole_run.specs.Runs.{serverAfter, World, Step, user, drops, server, newServer, NewWorld, newWorld, withUser, withServer, step, run, FairInput, FairStep, Fair}
+use Rattle.fork_bound.specs.Claim.{BoundHolds, ForkBound}
+use Rattle.fork_bound.proofs.Fork.{fork-bound}
+use Rattle.c_runs.specs.Bytes.{UserBytes, userOf, userCalled, callDropped, serverLeft, NewBytes, newUserBytes, newServerBytes}
+use Rattle.c_runs.specs.Runs.{ByteWorld, serverOf, worldOf, callStep, byteRun}
+use Rattle.c_runs.specs.Claim.{ByteForkBound, Sized}
+use Rattle.c_runs.proofs.Users.{Laid, user-same, user-laid}
+use Rattle.c_runs.proofs.Servers.{HeadSmall, head-small, head-same}
+use Rattle.c_runs.proofs.Zeros.{zeroUser, zeroServer, user-zero, head-zero, head-zero-small, laid-zero, user-dropped, laid-dropped}
+
+-- a world of users that step alike but for what is done to user a
+pub users-set : {A B : Type 0} (f : A → B) (x : ℕ → A) (a : ℕ) (y : A) (z : B) → f y ≡ z
+    → _≡_ {A = ℕ → B} (λ b. f (cond (eqb b a) y (x b))) (λ b. cond (eqb b a) z (f (x b)))
+users-set f x a y z e = fun-ext (λ b. by-eqb (λ t. f (cond t y (x b)) ≡ cond t z (f (x b))) b a (λ _. e) (λ _. refl))
+
+-- a fair start of a Write has a randomizer of 32 bytes
+fair-sized : (g : Setup) (log : List Event) (u : User) (i : Input) → FairInput g log u i → Sized i
+unfolding FairInput
+fair-sized g log u (startUpdate m) f = tt
+fair-sized g log u (startWrite m entry randomizer) f = f
+fair-sized g log u (startRead m i) f = tt
+fair-sized g log u (answer a) f = tt
+
+-- what holds of the bytes between calls
+record Holds (g : Setup) (w : ByteWorld) : Type 0 where
+  users : (a : ℕ) → Laid (settingsFor g a) (w .users a)
+  head : HeadSmall (headOf (w .server .head))
+
+-- a world with H as the bytes have it
+abbrev beside : ByteWorld → List Event → (ℕ → User) → World
+beside w log us = record { users = us; server = serverOf (w .server); log = log }
+
+module _ (g : Setup) (w : ByteWorld) (h : Holds g w) where
+  -- The world that the bytes stand for after a call is the world after the step.
+  step-same : (x : Step) → FairStep g (worldOf w) x → worldOf (callStep g w x) ≡ step g (worldOf w) x
+  unfolding worldOf callStep step withUser withServer serverAfter userStep FairStep serverOf serverLeft serverAnswered resultOf
+  step-same (user a i) f =
+      let s = settingsFor g a in
+      let u = w .users a in
+      ap (beside w (userStep s (userOf u) i .events ++ w .log))
+      (users-set userOf (w .users) a (userCalled s u i) (userStep s (userOf u) i .user)
+      (user-same s u (h .users a) i (fair-sized g (w .log) (userOf u) i f)))
+  step-same (drops a) f =
+      ap (beside w (w .log)) (users-set userOf (w .users) a (callDropped (w .users a)) (dropped (userOf (w .users a))) (user-dropped (w .users a)))
+  step-same (server q buffer) f =
+      rw (head-same (g .servers) (g .follows) (g .log) (g .users) (w .server .head) (w .server .store) (w .server .used) q buffer (h .head))
+
+  -- What holds of the bytes stays so.
+  users-on : (a : ℕ) (u : UserBytes) → Laid (settingsFor g a) u → (b : ℕ) → Laid (settingsFor g b) (cond (eqb b a) u (w .users b))
+  users-on a u l b = by-eqb (λ t. Laid (settingsFor g b) (cond t u (w .users b))) b a (λ e. rw e l) (λ _. h .users b)
+
+  step-holds : (x : Step) → FairStep g (worldOf w) x → Holds g (callStep g w x)
+  unfolding worldOf callStep FairStep serverLeft
+  step-holds (user a i) f =
+      let u = w .users a in
+      let l = user-laid (settingsFor g a) u (h .users a) i (fair-sized g (w .log) (userOf u) i f) in
+      record { users = users-on a (userCalled (settingsFor g a) u i) l; head = h .head }
+  step-holds (drops a) f =
+      record { users = users-on a (callDropped (w .users a)) (laid-dropped (settingsFor g a) (w .users a) (h .users a)); head = h .head }
+  step-holds (server q buffer) f =
+      let s = settings (g .servers) (g .follows) (g .log) (g .users) in
+      let b = w .server in
+      record {
+        users = h .users;
+        head =
+            subst HeadSmall (sym (head-same (g .servers) (g .follows) (g .log) (g .users) (b .head) (b .store) (b .used) q buffer (h .head)))
+            (head-small s (headOf (b .head)) (b .store) (b .used) q buffer (h .head));
+      }
+
+-- the new world that the zero bytes stand for
+abbrev pub zeroWorld : NewBytes → NewWorld
+zeroWorld b = record { users = zeroUser b; servers = zeroServer b }
+
+module _ (g : Setup) (b : NewBytes) where
+  abbrev stood : List Step → World
+  stood xs = worldOf (byteRun g b xs)
+
+  zero-same : stood [] ≡ newWorld g (zeroWorld b)
+  unfolding worldOf serverOf byteRun newServer newWorld newServerBytes
+  zero-same =
+      ap₂ (λ (us : ℕ → User) (k : Head). record { users = us; server = record { head = k; store = b .store (g .follows); used = 0 }; log = [] })
+      (fun-ext (λ a. user-zero b a)) (head-zero b (g .follows))
+
+  all-hold : (xs : List Step) → Fair g stood xs → Holds g (byteRun g b xs)
+  unfolding byteRun Fair
+  all-hold [] f = record { users = λ a. laid-zero (settingsFor g a) b a; head = head-zero-small b (g .follows) }
+  all-hold (x ∷ xs) f = step-holds g (byteRun g b xs) (all-hold xs (f .1)) x (f .0)
+
+  -- A list of calls of the exported functions is a run.
+  pub run-same : (xs : List Step) → Fair g stood xs → stood xs ≡ run g (zeroWorld b) xs
+  unfolding byteRun run Fair
+  run-same [] f = zero-same
+  run-same (x ∷ xs) f =
+      step-same g (byteRun g b xs) (all-hold xs (f .1)) x (f .0) ∙ ap (λ (w : World). step g w x) (run-same xs (f .1))
+
+  fair-same : (xs : List Step) → Fair g stood xs → Fair g (run g (zeroWorld b)) xs
+  unfolding Fair
+  fair-same [] f = tt
+  fair-same (x ∷ xs) f = (subst (λ (w : World). FairStep g w x) (run-same xs (f .1)) (f .0), fair-same xs (f .1))
+
+-- So the fork bound holds of it.
+pub byte-fork-bound : ByteForkBound
+unfolding ByteForkBound ForkBound
+byte-fork-bound g named one within b xs fair =
+    subst (BoundHolds g) (sym (run-same g b xs fair)) (fork-bound g named one within (zeroWorld b) xs (fair-same g b xs fair))

@@ -1,0 +1,72 @@
+-- The zero bytes that callers begin with stand for new users and new servers; so do those of a call that is dropped for none.
+use mathlib.Core.Path.{_≡_, refl, subst, sym, ap}
+use mathlib.Core.Bool.{true, false}
+use mathlib.Core.List.{List, []}
+use Prim.Native.Nat.{ℕ, _<_}
+use native.Mathlib.Omega.{arith}
+use lib.ListN.{length, replicate, length-replicate}
+use Rattle.sha256.specs.Bytes.{numberAt}
+use Rattle.tree.specs.Setup.{Settings}
+use Rattle.tree.proofs.Cases.{not-both}
+use Rattle.user.specs.Asking.{refused}
+use Rattle.user.specs.Outcome.{State, Lent}
+use Rattle.user_calls.specs.Calls.{Call, idle, taken}
+use Rattle.c_layout.specs.User.{keptOf, callOf}
+use Rattle.c_layout.specs.Server.{headOf}
+use Rattle.whole_run.specs.World.{dropped}
+use Rattle.whole_run.specs.Runs.{NewUser, NewServer, newUser, newHead}
+use Rattle.fork_bound.proofs.UserSteps.{stray}
+use Rattle.c_runs.specs.Bytes.{UserBytes, userOf, cleared, callDropped, NewBytes, newUserBytes, newServerBytes}
+use Rattle.c_runs.proofs.Ranges.{KeptFits}
+use Rattle.c_runs.proofs.Users.{Laid}
+use Rattle.c_runs.proofs.Servers.{HeadSmall}
+
+abbrev pub zeroUser : NewBytes → ℕ → NewUser
+zeroUser b a =
+    record {
+      digest = replicate 32 0;
+      path = b .path a;
+      signature = b .signature a;
+      path-size = b .path-size a;
+      signature-size = b .signature-size a;
+    }
+
+abbrev pub zeroServer : NewBytes → ℕ → NewServer
+zeroServer b s = record { author = 0; digest = replicate 32 0; store = b .store s; digest-size = length-replicate {A = ℕ} 32 0 }
+
+pub user-zero : (b : NewBytes) (a : ℕ) → userOf (newUserBytes b a) ≡ newUser (zeroUser b a)
+unfolding userOf newUserBytes newUser keptOf numberAt
+user-zero b a = refl
+
+pub head-zero : (b : NewBytes) (s : ℕ) → headOf (newServerBytes b s .head) ≡ newHead (zeroServer b s)
+unfolding headOf newServerBytes newHead numberAt
+head-zero b s = refl
+
+pub head-zero-small : (b : NewBytes) (s : ℕ) → HeadSmall (headOf (newServerBytes b s .head))
+unfolding newHead
+head-zero-small b s =
+    subst HeadSmall (sym (head-zero b s)) (record { position = omega arith; level = omega arith; author = omega arith })
+
+-- zero bytes take no answer
+none-over : (s : Settings) (σ : State) (m : Lent) (a : List ℕ) → taken s σ m (callOf (replicate 82 0)) a .step .code ≡ 0 → ⊥
+unfolding callOf taken refused
+none-over s σ m a = stray s σ m
+
+pub laid-zero : (s : Settings) (b : NewBytes) (a : ℕ) → Laid s (newUserBytes b a)
+unfolding newUserBytes keptOf numberAt
+laid-zero s b a =
+    record {
+      kept = record { digest = refl; version = omega arith; number = omega arith };
+      size = length-replicate {A = ℕ} 82 0;
+      goes = λ e. not-both true refl e;
+      over = λ _ x. none-over s _ _ x;
+    }
+
+pub user-dropped : (u : UserBytes) → userOf (callDropped u) ≡ dropped (userOf u)
+unfolding userOf callDropped cleared dropped
+user-dropped u = refl
+
+pub laid-dropped : (s : Settings) (u : UserBytes) → Laid s u → Laid s (callDropped u)
+unfolding callDropped cleared
+laid-dropped s u l =
+    record { kept = l .kept; size = length-replicate {A = ℕ} 82 0; goes = λ e. not-both true refl e; over = λ _ x. none-over s _ _ x }

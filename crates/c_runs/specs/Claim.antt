@@ -1,0 +1,34 @@
+-- Both claims, of lists of calls of the exported functions: a list of such calls is a run.
+use mathlib.Core.Path.{_≡_}
+use mathlib.Core.List.{List, [], _∷_}
+use Prim.Native.Nat.{_≤_}
+use lib.ListN.{length}
+use Rattle.user_calls.specs.Calls.{Input, startUpdate, startWrite, startRead, answer}
+use Rattle.whole_run.specs.World.{Setup}
+use Rattle.whole_run.specs.Runs.{Step, Fair}
+use Rattle.fork_bound.specs.Claim.{BoundHolds}
+use Rattle.honest_run.specs.Network.{HonestSetup, InRange, Act, calls}
+use Rattle.honest_run.specs.Claim.{CallsServe}
+use Rattle.c_runs.specs.Bytes.{NewBytes}
+use Rattle.c_runs.specs.Runs.{worldOf, byteRun, inBytes, zeroNetwork}
+
+-- The fork bound, of the world that the bytes stand for after every list of fair calls.
+unfoldable pub ByteForkBound : Type 0
+ByteForkBound =
+    (g : Setup) → length (g .log) ≡ 16 → 1 ≤ g .follows → g .follows ≤ g .servers
+    → (b : NewBytes) (xs : List Step) → Fair g (λ ys. worldOf (byteRun g b ys)) xs → BoundHolds g (worldOf (byteRun g b xs))
+
+-- "randomizer has 32 bytes" (include/kozbrax.h), in each call of the list.
+abbrev pub Sized : Input → Type 0
+Sized (startUpdate m) = Unit {0}
+Sized (startWrite m entry randomizer) = length randomizer ≡ 32
+Sized (startRead m i) = Unit {0}
+Sized (answer a) = Unit {0}
+
+unfoldable pub AllSized : List Act → Type 0
+AllSized [] = Unit {0}
+AllSized (calls a i k late ∷ xs) = Sized i × AllSized xs
+
+-- The honest run: no valid call is refused by the exported functions, each ends at its count of answers, and then does what it is for.
+unfoldable pub ByteHonestRun : Type 0
+ByteHonestRun = (c : HonestSetup) → InRange c → (b : NewBytes) (xs : List Act) → AllSized xs → CallsServe c (inBytes c) (zeroNetwork b) xs
