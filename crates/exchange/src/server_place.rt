@@ -1,5 +1,9 @@
 // A server's place: the head from its first byte on, position, level, a byte that is 0, author and digest; the store's used length; then
 // the store.
+ghost use mathlib.Core.Path.{_≡_};
+ghost use Prim.Native.Nat.{_≤_};
+ghost use lib.ListN.{length};
+ghost use Rattle.exchange.specs.ServerPlace.{headIn, headLaid, PlaceYields, placeServed};
 use c_layout::serving;
 use c_layout::serving::Served;
 use programs::key;
@@ -16,7 +20,10 @@ pub const USED: usize = 40;
 pub const STORE: usize = 48;
 
 // The head as `c_layout` has it.
-fn head_of(place: &[u8]) -> [u8; 39] {
+fn head_of(place: &[u8]) -> [u8; 39]
+    requires { ⌜ 48 ≤ length (now place) ⌝ }
+    ensures { λ r. ⌜ r ≡ headIn (now (place .entry)) ⌝ }
+{
     let mut head = [0u8; 39];
     let rest = bytes::front(bytes::from(place, AUTHOR), 34);
     bytes::put2(&mut head, 0, bytes::front(place, 5), rest);
@@ -24,7 +31,9 @@ fn head_of(place: &[u8]) -> [u8; 39] {
 }
 
 // Lays the head and the used length.
-fn keep(head: &[u8; 39], used: u64, place: &mut [u8]) {
+fn keep(head: &[u8; 39], used: u64, place: &mut [u8])
+    ensures { λ _. ⌜ now (place .exit) ≡ headLaid (now (head .entry)) used (now (place .entry)) ⌝ }
+{
     bytes::put(place, 0, bytes::front(head, 5));
     bytes::put(place, AUTHOR, bytes::from(head, 5));
     bytes::put(place, USED, &bytes::be4((used % 4294967296) as u32));
@@ -38,7 +47,10 @@ pub fn serve(
     place: &mut [u8],
     request: &[u8],
     answer: &mut [u8],
-) -> Served {
+) -> Served
+    ensures { λ r. ⌜ PlaceYields (placeServed servers own (now (users .entry)) (now (place .entry)) (now (request .entry))
+        (now (answer .entry))) r (now (place .exit)) (now (answer .exit)) ⌝ }
+{
     if place.len() < STORE {
         return Served {
             code: 22,

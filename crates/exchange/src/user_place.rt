@@ -2,13 +2,14 @@
 // step; then the buffers that are lent.
 ghost use mathlib.Core.Path.{_≡_};
 ghost use Rattle.exchange.specs.UserPlace.{loaded, requestOf, entryOf, hasEnded, forgotten};
+ghost use Rattle.exchange.specs.UserStep.{lastStart, stepBytes, stepLaid, stepOn, settledOn};
 ghost use Rattle.lines.specs.Memory.{zeros};
-use c_layout::taking;
+use crate::buffers;
+use crate::user_step;
 use c_layout::using;
 use c_layout::using::Asked;
 use c_layout::using::SettledAnswer;
 use programs::key;
-use programs::line;
 use sha256::bytes;
 
 // What is kept, from the place's first byte on: version, digest, number, and whether a write is open and signed.
@@ -45,7 +46,7 @@ pub const SIGNATURE: usize = 822;
 
 pub const HASHES: usize = 3330;
 
-const HELD: usize = 4578;
+pub const HELD: usize = 4578;
 
 pub const REQUEST: usize = 5604;
 
@@ -122,210 +123,61 @@ fn blank_memory() -> [u8; 5864]
 }
 
 // The kind of the start that came last, where a step of a kind comes now.
-fn last_start(kind: u8, place: &[u8]) -> u8 {
+fn last_start(kind: u8, place: &[u8]) -> u8
+    ensures { λ r. ⌜ r ≡ lastStart kind (now (place .entry)) ⌝ }
+{
     if kind == 0 {
         return bytes::byte_at(place, KIND);
     }
     kind
 }
 
-// Lays what a step of a kind gave. A call that has ended leaves the server and the length of its last request.
-fn keep_step(kind: u8, asked: Asked, place: &mut [u8]) {
-    let last = last_start(kind, place);
-    let code = (asked.code % 256) as u8;
-    let refusal = (asked.refusal % 256) as u8;
-    let ended = (asked.ended % 256) as u8;
+// The bytes of the last step: which start came last, and what the step gave but the server and the length of its request.
+fn step_bytes(last: u8, asked: Asked) -> [u8; 8]
+    ensures { λ r. ⌜ r ≡ stepBytes last asked ⌝ }
+{
     let a = bytes::be2((asked.author % 65536) as u16);
     let n = bytes::be2((asked.entry % 65536) as u16);
-    bytes::put(
-        place,
-        KIND,
-        &[last, code, refusal, ended, a[0], a[1], n[0], n[1]],
-    );
-    if ended == 0 {
+    [
+        last,
+        (asked.code % 256) as u8,
+        (asked.refusal % 256) as u8,
+        (asked.ended % 256) as u8,
+        a[0],
+        a[1],
+        n[0],
+        n[1],
+    ]
+}
+
+// Lays what a step of a kind gave. A call that has ended leaves the server and the length of its last request.
+fn keep_step(kind: u8, asked: Asked, place: &mut [u8])
+    ensures { λ _. ⌜ now (place .exit) ≡ stepLaid kind asked (now (place .entry)) ⌝ }
+{
+    let given = step_bytes(last_start(kind, place), asked);
+    bytes::put(place, KIND, &given);
+    if asked.ended % 256 == 0 {
         let length = bytes::be2((asked.length % 65536) as u16);
         bytes::put2(place, SERVER, &[(asked.server % 256) as u8], &length);
     }
 }
 
-// The start of a call: kind 1 an Update, 3 a Read, any other a Write.
-fn started(
-    s: Settings,
-    users: &[u8],
-    tree: &[u8],
-    input: &[u8],
-    kept: &[u8; 42],
-    path: &[u8; 672],
-    call: &mut [u8; 82],
-    held: &mut [u8; 1026],
-    request: &mut [u8],
-    entry: &[u8],
-) -> Asked {
-    let log = key::LOG;
-    let n = s.servers;
-    let own = s.own;
-    if s.kind == 1 {
-        return using::update_start(n, own, &log, users, kept, call, request);
-    }
-    if s.kind == 3 {
-        return using::read_start(n, own, &log, users, s.number, kept, call, request, entry);
-    }
-    let randomizer = [(s.number % 256) as u8; 32];
-    using::write_start(
-        n,
-        own,
-        &log,
-        users,
-        tree,
-        input,
-        &randomizer,
-        kept,
-        path,
-        call,
-        held,
-        request,
-    )
-}
-
-// The step with everything lent: a start, or an answer that is taken in.
-fn lent(
-    s: Settings,
-    keys: &[u8],
-    input: &[u8],
-    kept: &mut [u8; 42],
-    call: &mut [u8; 82],
-    path: &mut [u8; 672],
-    signature: &mut [u8; 2508],
-    hashes: &mut [u8; 1248],
-    held: &mut [u8; 1026],
-    request: &mut [u8],
-    entry: &mut [u8],
-) -> Asked {
-    let name = (s.own % 256) as u8;
-    let users = bytes::front(keys, s.users as usize);
-    let tree = bytes::front(key::tree_of(keys, name), s.tree as usize);
-    if 0 < s.kind {
-        return started(
-            s,
-            users,
-            tree,
-            input,
-            kept,
-            path,
-            call,
-            held,
-            request,
-            entry,
-        );
-    }
-    taking::take(
-        s.servers,
-        s.own,
-        &key::LOG,
-        users,
-        &[name; 16],
-        &[name; 32],
-        tree,
-        input,
-        kept,
-        path,
-        signature,
-        call,
-        hashes,
-        held,
-        request,
-        entry,
-    )
-}
-
-// The step with what is kept and the call's memory lent; the last step is laid too.
-fn lent_state(
-    s: Settings,
-    keys: &[u8],
-    input: &[u8],
-    kept: &mut [u8; 42],
-    call: &mut [u8; 82],
-    path: &mut [u8; 672],
-    signature: &mut [u8; 2508],
-    hashes: &mut [u8; 1248],
-    held: &mut [u8; 1026],
-    place: &mut [u8],
-) {
-    let mut space = [0u8; 2566];
-    let mut bytes_read = [0u8; 1024];
-    let request: &mut [u8] = &mut space;
-    let entry: &mut [u8] = &mut bytes_read;
-    load(place, REQUEST, request);
-    load(place, ENTRY, entry);
-    let room = line::at_most(s.request, 2566);
-    let size = line::at_most(s.entry, 1024);
-    let asked = lent(
-        s,
-        keys,
-        input,
-        kept,
-        call,
-        path,
-        signature,
-        hashes,
-        held,
-        &mut request[0..room],
-        &mut entry[0..size],
-    );
-    bytes::put(place, REQUEST, request);
-    bytes::put(place, ENTRY, entry);
-    keep_step(s.kind, asked, place);
-}
-
-// Lays what is kept and the call's memory.
-fn keep(
-    kept: &[u8; 42],
-    call: &[u8; 82],
-    path: &[u8; 672],
-    signature: &[u8; 2508],
-    hashes: &[u8; 1248],
-    held: &[u8; 1026],
-    place: &mut [u8],
-) {
-    bytes::put2(place, 0, kept, call);
-    bytes::put2(place, PATH, path, signature);
-    bytes::put2(place, HASHES, hashes, held);
-}
-
 // A step on a place. The input is the entry of a Write, or the answer that is taken in.
-pub fn step(s: Settings, keys: &[u8], input: &[u8], place: &mut [u8]) {
-    let mut kept = [0u8; 42];
-    let mut call = [0u8; 82];
-    let mut path = [0u8; 672];
-    let mut signature = [0u8; 2508];
-    let mut hashes = [0u8; 1248];
-    let mut held = [0u8; 1026];
-    load(place, 0, &mut kept);
-    load(place, CALL, &mut call);
-    load(place, PATH, &mut path);
-    load(place, SIGNATURE, &mut signature);
-    load(place, HASHES, &mut hashes);
-    load(place, HELD, &mut held);
-    lent_state(
-        s,
-        keys,
-        input,
-        &mut kept,
-        &mut call,
-        &mut path,
-        &mut signature,
-        &mut hashes,
-        &mut held,
-        place,
-    );
-    keep(&kept, &call, &path, &signature, &hashes, &held, place);
+pub fn step(s: Settings, keys: &[u8], input: &[u8], place: &mut [u8])
+    ensures { λ _. ⌜ now (place .exit) ≡ stepOn s (now (keys .entry)) (now (input .entry)) (now (place .entry)) ⌝ }
+{
+    let left = user_step::made(s, keys, input, buffers::of_place(place));
+    let after = left.buffers;
+    buffers::lay(after, place);
+    keep_step(s.kind, left.asked, place);
 }
 
 // Whether the own operation at the settings' number is settled.
-pub fn settled(s: Settings, keys: &[u8], place: &[u8]) -> SettledAnswer {
+pub fn settled(s: Settings, keys: &[u8], place: &[u8]) -> SettledAnswer
+    ensures { λ r. ⌜ r ≡ settledOn s (now (keys .entry)) (now (place .entry)) ⌝ }
+{
     let log = key::LOG;
-    let mut kept = [0u8; 42];
-    load(place, 0, &mut kept);
+    let kept = buffers::kept_of(place);
     let users = bytes::front(keys, s.users as usize);
     using::settled(s.servers, s.own, &log, users, &kept, s.number)
 }

@@ -1,34 +1,23 @@
--- The value of a digit by the way through its tests, and one turn of the decoding loop.
+-- The value of a digit, and one turn of the decoding loop.
 use mathlib.Core.Path.{_≡_, refl, _∙_, sym}
+use mathlib.Core.Bool.{Bool, true, false, _&&_}
 use mathlib.Core.List.{List, [], _∷_, _++_, append-assoc}
 use Prim.Native.Nat.{ℕ, zero, suc, _+_, _-_, _*_, _≤_, _<_}
 use native.Mathlib.Numerals.{add-one}
 use native.Mathlib.Omega.{arith}
+use lib.Dec.{leb}
 use lib.ListN.{length, drop, getD, set, length-append}
 use lib.Seq.{drop-cons, set-at}
-use borrow.Author.Tests.{le-leb, lt-leb}
+use borrow.Author.Tests.{leb-true}
 use Rattle.hex.specs.Digits.{digitValue, decoded}
 
-module _ (f : ℕ) where
-  pub below-digits : f < 48 → (0 ≡ digitValue f) × (0 < 16)
-  unfolding digitValue
-  below-digits h = (rw (lt-leb 48 f h, lt-leb 97 f (omega arith)), omega arith)
+-- a number that is in a range
+and-true : (a b : Bool) → a && b ≡ true → (a ≡ true) × (b ≡ true)
+and-true true b e = (refl, e)
+and-true false b e = let z : _≡_ {A = ℕ} 0 1 = cc in absurd (omega arith)
 
-  pub a-digit : 48 ≤ f → f ≤ 57 → (f - 48 ≡ digitValue f) × (f - 48 < 16)
-  unfolding digitValue
-  a-digit h g = (rw (le-leb 48 f h, le-leb f 57 g), omega arith)
-
-  pub between : 57 < f → f < 97 → (0 ≡ digitValue f) × (0 < 16)
-  unfolding digitValue
-  between h g = (rw (le-leb 48 f (omega arith), lt-leb f 57 h, lt-leb 97 f g), omega arith)
-
-  pub a-letter : 57 < f → 97 ≤ f → f ≤ 102 → (f - 87 ≡ digitValue f) × (f - 87 < 16)
-  unfolding digitValue
-  a-letter h g k = (rw (le-leb 48 f (omega arith), lt-leb f 57 h, le-leb 97 f g, le-leb f 102 k), omega arith)
-
-  pub above-letters : 57 < f → 97 ≤ f → 102 < f → (0 ≡ digitValue f) × (0 < 16)
-  unfolding digitValue
-  above-letters h g k = (rw (le-leb 48 f (omega arith), lt-leb f 57 h, le-leb 97 f g, lt-leb f 102 k), omega arith)
+pub within : (least most n : ℕ) → leb least n && leb n most ≡ true → (least ≤ n) × (n ≤ most)
+within least most n e = let t = and-true (leb least n) (leb n most) e in (leb-true least n (t .0), leb-true n most (t .1))
 
 decoded-length : (n : ℕ) (s : List ℕ) → length (decoded n s) ≡ n
 unfolding decoded

@@ -23,16 +23,10 @@ pub fn decode(digits: &[u8], out: &mut [u8]) -> usize
 fn value(digit: u8) -> u8
     ensures { λ r. ⌜ (r ≡ digitValue digit) × (r < 16) ⌝ }
 {
-    if digit < b'0' {
-        return 0;
-    }
-    if digit <= b'9' {
+    if (b'0' <= digit) & (digit <= b'9') {
         return digit - b'0';
     }
-    if digit < b'a' {
-        return 0;
-    }
-    if digit <= b'f' {
+    if (b'a' <= digit) & (digit <= b'f') {
         return digit - 87;
     }
     0

@@ -88,25 +88,13 @@ pub fn read_digits(text: &[u8], at: usize) -> Digits
 fn is_blank(b: u8) -> bool
     ensures { λ r. ⌜ r ≡ isBlank b ⌝ }
 {
-    if b == b' ' {
-        return true;
-    }
-    if b == b'\t' {
-        return true;
-    }
-    if b == b'\n' {
-        return true;
-    }
-    b == b'\r'
+    (b == b' ') | (b == b'\t') | (b == b'\n') | (b == b'\r')
 }
 
 fn is_digit(b: u8) -> bool
     ensures { λ r. ⌜ r ≡ isDigit b ⌝ }
 {
-    if b < b'0' {
-        return false;
-    }
-    b <= b'9'
+    (b'0' <= b) & (b <= b'9')
 }
 
 // A number with one more decimal digit, at most 9,999,999.

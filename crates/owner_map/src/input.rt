@@ -31,14 +31,5 @@ pub fn parse(text: &[u8]) -> Asked
 fn in_range(servers: u32, last: u32) -> bool
     ensures { λ r. ⌜ r ≡ inRange servers last ⌝ }
 {
-    if servers < 2 {
-        return false;
-    }
-    if 16 < servers {
-        return false;
-    }
-    if last < 1 {
-        return false;
-    }
-    last <= 1048576
+    (2 <= servers) & (servers <= 16) & ((1 <= last) & (last <= 1048576))
 }

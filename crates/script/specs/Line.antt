@@ -1,8 +1,8 @@
 -- A line of a script: a word, one to four numbers, and what stands behind them. docs/STUDIO.md.
-use mathlib.Core.Bool.{Bool, true, cond, _&&_}
+use mathlib.Core.Bool.{Bool, true, false, cond, _&&_}
 use mathlib.Core.List.{List, [], _∷_}
 use Prim.Native.Nat.{ℕ}
-use lib.Dec.{leb, ltb, eqb}
+use lib.Dec.{leb, eqb}
 use lib.ListN.{length, take, drop}
 use Rattle.lines.specs.Text.{isBlank, isOther, run, past, afterBlanks}
 use Rattle.script.specs.declared.Fault.{Fault}
@@ -38,19 +38,16 @@ endOf form n =
     cond (leb 4 (form .numbers)) (n .fourth .next)
     (cond (leb 3 (form .numbers)) (n .third .next) (cond (leb 2 (form .numbers)) (n .second .next) (n .first .next)))
 
--- What is wrong with so many bytes behind the numbers, where a command takes none, and where it takes a text of 1 to 1,023 bytes.
-unfoldable pub nothingFault : ℕ → Fault
-nothingFault n = cond (ltb 0 n) Fault.TooMuch Fault.Nothing
+-- What is wrong with so many bytes behind the numbers: nothing, where they are from a least to a greatest number, and else a fault.
+unfoldable pub lengthFault : ℕ → ℕ → ℕ → Fault → Fault
+lengthFault least most n fault = cond (leb least n && leb n most) Fault.Nothing fault
 
-unfoldable pub textFault : ℕ → Fault
-textFault n = cond (leb 1 n && leb n 1023) Fault.Nothing Fault.TextLength
-
--- What is wrong with what is left of a line behind its numbers.
+-- What is wrong with what is left of a line behind its numbers: nothing may be left, or a text of 1 to 1,023 bytes, or a list.
 abbrev pub leftFault : Rest → List ℕ → Fault
-leftFault Nothing left = nothingFault (length left)
-leftFault Text left = textFault (length left)
-leftFault Segments left = listFault Rest.Segments 16 left 0
-leftFault Minutes left = listFault Rest.Minutes 66 left 0
+leftFault Nothing left = lengthFault 0 0 (length left) Fault.TooMuch
+leftFault Text left = lengthFault 1 1023 (length left) Fault.TextLength
+leftFault Segments left = listFault false (most false) left 0
+leftFault Minutes left = listFault true (most true) left 0
 
 -- The first of all that is wrong with a line.
 unfoldable pub faultOf : Form → Numbers → List ℕ → Fault
@@ -64,11 +61,8 @@ faultOf form n left =
 
 -- The command of a line on a log of so many servers: its word ends at the first space, 32.
 unfoldable pub commandOf : List ℕ → ℕ → Command
-commandOf line servers =
-    let size = run (isOther 32) line in
-    let form = formOf (take size line) servers in
-    let n = numbersAt line size in
-    let text = afterBlanks line (endOf form n) in
+commandOf line servers = let size = run (isOther 32) line in let form = formOf (take size line) servers in
+    let n = numbersAt line size in let text = afterBlanks line (endOf form n) in
     record {
       word = form .word;
       first = n .first .value;

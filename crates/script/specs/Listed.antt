@@ -7,19 +7,14 @@ use lib.ListN.{length}
 use Rattle.lines.specs.Text.{afterBlanks}
 use Rattle.script.specs.declared.Fault.{Fault}
 use Rattle.script.specs.declared.Fault.the-variants.{Nothing, UnknownWord, Number, TextLength, Rate, Target, Hold, Minute, TooMuch}
-use Rattle.script.specs.declared.form.Rest.{Rest}
-use Rattle.script.specs.declared.form.Rest.the-variants.{Nothing as NoRest, Text, Segments, Minutes}
 use Rattle.script.specs.declared.list.Item.{Item}
 use Rattle.script.specs.Number.{nextNumber, twoBytes, isWithin}
 use Rattle.script.specs.Segment.{segmentAt}
 
--- How many a line lists at most: a schedule has 16 segments. The minutes are those of 33 windows, one more than the rules allow, so that
--- the report, and not the script, refuses them.
-abbrev pub most : Rest → ℕ
-most NoRest = 0
-most Text = 0
-most Segments = 16
-most Minutes = 66
+-- How many minutes or segments a line lists at most: a schedule has 16 segments. The minutes are those of 33 windows, one more than the
+-- rules allow, so that the report, and not the script, refuses them.
+abbrev pub most : Bool → ℕ
+most minutes = cond minutes 66 16
 
 -- The minute after the blanks at a place. That there is none at the line's end is no fault.
 unfoldable pub minuteItem : List ℕ → ℕ → Item
@@ -33,12 +28,9 @@ minuteItem text at =
 unfoldable pub segmentItem : List ℕ → ℕ → Item
 segmentItem text at = record { fault = segmentAt text at .fault; next = segmentAt text at .next }
 
--- What is listed at a place.
-abbrev pub itemAt : Rest → List ℕ → ℕ → Item
-itemAt NoRest text at = segmentItem text at
-itemAt Text text at = segmentItem text at
-itemAt Segments text at = segmentItem text at
-itemAt Minutes text at = minuteItem text at
+-- What is listed at a place: a minute, or a segment.
+abbrev pub itemAt : Bool → List ℕ → ℕ → Item
+itemAt minutes text at = cond minutes (minuteItem text at) (segmentItem text at)
 
 abbrev pub isFault : Fault → Bool
 isFault Nothing = false
@@ -52,9 +44,9 @@ isFault Minute = true
 isFault TooMuch = true
 
 -- What is wrong with a list from a place on, of at most k segments or minutes: the first fault, or that the line goes on behind them.
-unfoldable pub listFault : Rest → ℕ → List ℕ → ℕ → Fault
-listFault rest zero text at = Fault.TooMuch
-listFault rest (suc k) text at =
-    let item = itemAt rest text at in
+unfoldable pub listFault : Bool → ℕ → List ℕ → ℕ → Fault
+listFault minutes zero text at = Fault.TooMuch
+listFault minutes (suc k) text at =
+    let item = itemAt minutes text at in
     cond (isFault (item .fault)) (item .fault)
-    (cond (leb (length text) (item .next)) Fault.Nothing (listFault rest k text (item .next)))
+    (cond (leb (length text) (item .next)) Fault.Nothing (listFault minutes k text (item .next)))

@@ -9,7 +9,7 @@ ghost use mathlib.Core.Path.{_≡_};
 ghost use lib.ListN.{length};
 ghost use Rattle.script.specs.Length.{tooLong};
 ghost use Rattle.lines.specs.Memory.{zeros};
-ghost use Rattle.script.specs.Line.{isIdle, numbersAt, endOf, nothingFault, textFault, leftFault, faultOf, commandOf};
+ghost use Rattle.script.specs.Line.{isIdle, numbersAt, endOf, lengthFault, leftFault, faultOf, commandOf};
 use form::Form;
 use form::Rest;
 use lines::Digits;
@@ -176,32 +176,19 @@ fn left_fault(rest: Rest, left: &[u8]) -> Fault
     ensures { λ r. ⌜ r ≡ leftFault rest (now (left .entry)) ⌝ }
 {
     match rest {
-        Rest::Nothing => nothing_fault(left.len()),
-        Rest::Text => text_fault(left.len()),
-        Rest::Segments => list::fault(rest, left),
-        Rest::Minutes => list::fault(rest, left),
+        Rest::Nothing => length_fault(0, 0, left.len(), Fault::TooMuch),
+        Rest::Text => length_fault(1, 1023, left.len(), Fault::TextLength),
+        Rest::Segments => list::fault(false, left),
+        Rest::Minutes => list::fault(true, left),
     }
 }
 
-// What is wrong with so many bytes that a command does not take.
-fn nothing_fault(length: usize) -> Fault
-    ensures { λ r. ⌜ r ≡ nothingFault length ⌝ }
+// What is wrong with so many bytes: nothing, where they are from a least to a greatest number, and else this.
+fn length_fault(least: usize, most: usize, length: usize, fault: Fault) -> Fault
+    ensures { λ r. ⌜ r ≡ lengthFault least most length fault ⌝ }
 {
-    if 0 < length {
-        return Fault::TooMuch;
+    if (least <= length) & (length <= most) {
+        return Fault::Nothing;
     }
-    Fault::Nothing
-}
-
-// What is wrong with a text of so many bytes.
-fn text_fault(length: usize) -> Fault
-    ensures { λ r. ⌜ r ≡ textFault length ⌝ }
-{
-    if length == 0 {
-        return Fault::TextLength;
-    }
-    if 1023 < length {
-        return Fault::TextLength;
-    }
-    Fault::Nothing
+    fault
 }

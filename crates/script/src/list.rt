@@ -2,7 +2,6 @@
 ghost use mathlib.Core.Path.{_≡_};
 ghost use Rattle.script.specs.Listed.{most as mostOf, minuteItem, segmentItem, itemAt, isFault, listFault};
 use crate::Fault;
-use crate::form::Rest;
 use crate::number;
 use crate::segments;
 
@@ -12,15 +11,15 @@ struct Item {
     next: usize,
 }
 
-// What is wrong with what a line lists.
-pub fn fault(rest: Rest, text: &[u8]) -> Fault
-    ensures { λ r. ⌜ r ≡ listFault rest (mostOf rest) (now (text .entry)) 0 ⌝ }
+// What is wrong with what a line lists: minutes, or else segments.
+pub fn fault(minutes: bool, text: &[u8]) -> Fault
+    ensures { λ r. ⌜ r ≡ listFault minutes (mostOf minutes) (now (text .entry)) 0 ⌝ }
 {
-    let most = most(rest);
+    let most = most(minutes);
     let mut at = 0;
     let mut count: u8 = 0;
     while count < most {
-        let item = item_at(rest, text, at);
+        let item = item_at(minutes, text, at);
         let wrong = item.fault;
         if is_fault(wrong) {
             return wrong;
@@ -36,26 +35,22 @@ pub fn fault(rest: Rest, text: &[u8]) -> Fault
 
 // How many segments or minutes a line lists at most. The minutes are those of 33 windows, one more than the rules allow, so that the
 // report, and not the script, refuses them.
-fn most(rest: Rest) -> u8
-    ensures { λ r. ⌜ r ≡ mostOf rest ⌝ }
+fn most(minutes: bool) -> u8
+    ensures { λ r. ⌜ r ≡ mostOf minutes ⌝ }
 {
-    match rest {
-        Rest::Nothing => 0,
-        Rest::Text => 0,
-        Rest::Segments => 16,
-        Rest::Minutes => 66,
+    if minutes {
+        return 66;
     }
+    16
 }
 
-fn item_at(rest: Rest, text: &[u8], at: usize) -> Item
-    ensures { λ r. ⌜ r ≡ itemAt rest (now (text .entry)) at ⌝ }
+fn item_at(minutes: bool, text: &[u8], at: usize) -> Item
+    ensures { λ r. ⌜ r ≡ itemAt minutes (now (text .entry)) at ⌝ }
 {
-    match rest {
-        Rest::Nothing => segment_at(text, at),
-        Rest::Text => segment_at(text, at),
-        Rest::Segments => segment_at(text, at),
-        Rest::Minutes => minute_at(text, at),
+    if minutes {
+        return minute_at(text, at);
     }
+    segment_at(text, at)
 }
 
 fn segment_at(text: &[u8], at: usize) -> Item

@@ -49,13 +49,7 @@ pub fn at_place(line: &[u8], at: usize) -> Digits
 pub fn is_within(d: Digits, range: Range) -> bool
     ensures { λ r. ⌜ r ≡ isWithin d range ⌝ }
 {
-    if !d.found {
-        return false;
-    }
-    if d.value < range.least {
-        return false;
-    }
-    d.value <= range.most
+    d.found & ((range.least <= d.value) & (d.value <= range.most))
 }
 
 // Whether number k of a line is wrong, of which its command takes so many.

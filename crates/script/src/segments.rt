@@ -1,4 +1,5 @@
 // The segments of a schedule on a line: a rate, which may be below 0, a target and a hold for each, with blanks between them.
+ghost use mathlib.Core.Bool.{cond};
 ghost use mathlib.Core.Path.{_≡_};
 ghost use Rattle.script.specs.Segment.{fromZero, belowZero, rateAt, segmentFault, segmentAt};
 use crate::Fault;
@@ -84,14 +85,18 @@ fn below_0(d: Digits) -> Rate
 fn fault_of(rate: Rate, target: Digits, hold: Digits) -> Fault
     ensures { λ r. ⌜ r ≡ segmentFault rate target hold ⌝ }
 {
-    if !rate.fits {
-        return Fault::Rate;
+    let range = number::two_bytes();
+    let of_hold = unless(number::is_within(hold, range), Fault::Hold, Fault::Nothing);
+    let of_target = unless(number::is_within(target, range), Fault::Target, of_hold);
+    unless(rate.fits, Fault::Rate, of_target)
+}
+
+// This fault where a number does not fit, and else what follows.
+fn unless(fits: bool, fault: Fault, rest: Fault) -> Fault
+    ensures { λ r. ⌜ r ≡ cond fits rest fault ⌝ }
+{
+    if fits {
+        return rest;
     }
-    if !number::is_within(target, number::two_bytes()) {
-        return Fault::Target;
-    }
-    if !number::is_within(hold, number::two_bytes()) {
-        return Fault::Hold;
-    }
-    Fault::Nothing
+    fault
 }

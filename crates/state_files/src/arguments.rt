@@ -86,10 +86,7 @@ pub fn fit(s: Settings, most: u32, users: &[u8]) -> bool
 fn is_from(least: usize, most: usize, n: usize) -> bool
     ensures { λ r. ⌜ r ≡ isFrom least most n ⌝ }
 {
-    if n < least {
-        return false;
-    }
-    n <= most
+    (least <= n) & (n <= most)
 }
 
 // Whether so many bytes are the public keys of 1 to 64 users.

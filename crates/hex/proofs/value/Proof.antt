@@ -1,25 +1,26 @@
-use Rattle.hex.proofs.Decoding.{below-digits, a-digit, between, a-letter, above-letters}
-use borrow.Author.Needs.{needs}
+use native.Mathlib.Omega.{arith}
+use Rattle.hex.specs.Digits.{digitValue}
+use Rattle.hex.proofs.Decoding.{within}
 use Rattle.hex.proofs.value.Statement.{statement}
 use Rattle.hex.proofs.value.Tie as tie
 
+sub-result : tie.Need-sub-result
+sub-result c = omega (arith, within 48 57 (c .before .args .digit) (c .if1 .taken))
+
 returns : tie.Need-returns
-returns c = below-digits _ (c .if1 .taken)
+unfolding digitValue
+returns c = (rw (c .if1 .taken), omega (arith, within 48 57 (c .before .args .digit) (c .if1 .taken)))
+
+sub-result-2 : tie.Need-sub-result-2
+sub-result-2 c = omega (arith, within 97 102 (c .before .before .args .digit) (c .if2 .taken))
 
 returns-2 : tie.Need-returns-2
-returns-2 c = a-digit _ (c .before .if1 .left) (c .if2 .taken)
+unfolding digitValue
+returns-2 c = (rw (c .before .if1 .left, c .if2 .taken), omega (arith, within 97 102 (c .before .before .args .digit) (c .if2 .taken)))
 
 returns-3 : tie.Need-returns-3
-returns-3 c = between _ (c .before .if2 .left) (c .if3 .taken)
-
-sub-result : tie.Need-sub-result
-sub-result c = search needs
-
-returns-4 : tie.Need-returns-4
-returns-4 c = a-letter _ (c .before .before .if2 .left) (c .before .if3 .left) (c .if4 .taken)
-
-returns-5 : tie.Need-returns-5
-returns-5 c = above-letters _ (c .before .before .if2 .left) (c .before .if3 .left) (c .if4 .left)
+unfolding digitValue
+returns-3 c = (rw (c .before .if1 .left, c .if2 .left), omega arith)
 
 pub value-spec : {M : Type 1} → statement M
-value-spec = tie.close (tie.spec returns returns-2 returns-3 sub-result returns-4 returns-5)
+value-spec = tie.close (tie.spec sub-result returns sub-result-2 returns-2 returns-3)

@@ -1,15 +1,11 @@
-use borrow.Author.Tests.{lt-leb, le-leb}
+use mathlib.Core.Path.{refl}
 use Rattle.lines.specs.Text.{isDigit}
 use Rattle.lines.proofs.is_digit.Statement.{statement}
 use Rattle.lines.proofs.is_digit.Tie as tie
 
 returns : tie.Need-returns
 unfolding isDigit
-returns c = rw (lt-leb 48 _ (c .if1 .taken))
-
-returns-2 : tie.Need-returns-2
-unfolding isDigit
-returns-2 c = rw (le-leb 48 _ (c .if1 .left))
+returns c = refl
 
 pub is-digit-spec : {M : Type 1} → statement M
-is-digit-spec = tie.close (tie.spec returns returns-2)
+is-digit-spec = tie.close (tie.spec returns)

@@ -9,10 +9,10 @@ use Rattle.script.proofs.list.fault.Statement.{statement}
 use Rattle.script.proofs.list.fault.Tie as tie
 
 abbrev Inv-loop : tie.InvT-loop
-Inv-loop rest text most at₀ count₀ at count = (count ≤ most) × (listFault rest most text 0 ≡ listFault rest (most - count) text at)
+Inv-loop minutes text most at₀ count₀ at count = (count ≤ most) × (listFault minutes most text 0 ≡ listFault minutes (most - count) text at)
 
 abbrev μ-loop : tie.MeasureT-loop
-μ-loop rest text most at₀ count₀ at count = most - count
+μ-loop minutes text most at₀ count₀ at count = most - count
 
 most-requires : tie.Need-most-requires Inv-loop μ-loop
 most-requires c κs = search needs
@@ -33,7 +33,7 @@ returns c =
     let loop = c .before .before .before .before .loop in
     let loop-test-taken = c .before .before .before .loop-test .taken in
     let item-at = c .before .before .item-at in
-    rw (← the-most .ensures) (is-wrong (args .rest) (args .text .now) (the-most .result) (loop .count) (loop .at) _ (loop .inv .1)
+    rw (← the-most .ensures) (is-wrong (args .minutes) (args .text .now) (the-most .result) (loop .count) (loop .at) _ (loop .inv .1)
     loop-test-taken (item-at .result) (item-at .ensures) (sym (c .before .is-fault .ensures) ∙ c .if1 .taken))
 
 returns-2 : tie.Need-returns-2 Inv-loop μ-loop
@@ -44,7 +44,7 @@ returns-2 c =
     let loop-test-taken = c .before .before .before .before .loop-test .taken in
     let item-at = c .before .before .before .item-at in
     let is-fault = c .before .before .is-fault .ensures in
-    rw (← the-most .ensures) (is-last (args .rest) (args .text .now) (the-most .result) (loop .count) (loop .at) _ (loop .inv .1)
+    rw (← the-most .ensures) (is-last (args .minutes) (args .text .now) (the-most .result) (loop .count) (loop .at) _ (loop .inv .1)
     loop-test-taken (item-at .result) (item-at .ensures) (sym is-fault ∙ c .before .if1 .left) (c .if2 .taken))
 
 add-count : tie.Need-add-count Inv-loop μ-loop
@@ -62,7 +62,7 @@ loop-again c =
     let item-at = c .before .before .before .item-at in
     let is-fault = c .before .before .is-fault .ensures in (
       omega arith,
-      is-followed (args .rest) (args .text .now) most-result (loop .count) (loop .at) _ (loop .inv .1) loop-test-taken
+      is-followed (args .minutes) (args .text .now) most-result (loop .count) (loop .at) _ (loop .inv .1) loop-test-taken
           (item-at .result) (item-at .ensures) (sym is-fault ∙ c .before .if1 .left) (c .if2 .left),
     )
 

@@ -25,11 +25,7 @@ returns c =
 add-at-place : tie.Need-add-at-place
 add-at-place c =
     let args = c .before .before .before .args in
-    omega (
-      arith,
-      byte-there (args .text .now) (args .at) (c .before .byte-at .result) (c .before .byte-at .ensures)
-          (λ z. omega (arith, c .if1 .left)),
-    )
+    let there = byte-there (args .text .now) (args .at) _ (c .before .byte-at .ensures) (λ z. omega (arith, c .if1 .left)) in omega arith
 
 at-place-requires-2 : tie.Need-at-place-requires-2
 at-place-requires-2 c κs = search needs

@@ -1,0 +1,3 @@
+-- Laws of a user's steps and a server's calls on their places.
+pub mod Steps
+pub mod Served

@@ -1,0 +1,193 @@
+// A step of a user on the buffers of its place, by the calls of `c_layout`.
+ghost use mathlib.Core.Path.{_≡_};
+ghost use Prim.Native.Nat.{_≤_};
+ghost use lib.ListN.{length};
+ghost use Rattle.exchange.specs.UserStep.{treeLent, startLeft, updateMade, readMade, writeMade, answerMade, stepMade};
+use crate::buffers::Buffers;
+use crate::user_place::Settings;
+use c_layout::taking;
+use c_layout::using;
+use c_layout::using::Asked;
+use programs::key;
+use programs::line;
+use sha256::bytes;
+
+// What a step gives, and the buffers after it.
+pub struct Left {
+    pub asked: Asked,
+    pub buffers: Buffers,
+}
+
+// The step: kind 0 takes in an answer; 1 starts an Update, 3 a Read, any other a Write.
+pub fn made(s: Settings, keys: &[u8], input: &[u8], b: Buffers) -> Left
+    ensures { λ r. ⌜ r ≡ stepMade s (now (keys .entry)) (now (input .entry)) b ⌝ }
+{
+    let users = bytes::front(keys, s.users as usize);
+    let room = line::at_most(s.request, 2566);
+    if s.kind == 0 {
+        let size = line::at_most(s.entry, 1024);
+        return answer_made(s, users, tree_lent(s, keys), room, size, input, b);
+    }
+    if s.kind == 1 {
+        return update_made(s, users, room, b);
+    }
+    if s.kind == 3 {
+        return read_made(s, users, room, b);
+    }
+    write_made(s, users, tree_lent(s, keys), room, input, b)
+}
+
+// What a start gives, with the buffers that it may change.
+fn start_left(
+    asked: Asked,
+    b: Buffers,
+    call: [u8; 82],
+    held: [u8; 1026],
+    request: [u8; 2566],
+) -> Left
+    ensures { λ r. ⌜ r ≡ startLeft asked b call held request ⌝ }
+{
+    let mut buffers = b;
+    buffers.call = call;
+    buffers.held = held;
+    buffers.request = request;
+    Left { asked, buffers }
+}
+
+// The start of an Update. Of the request buffer the first `room` bytes are lent, here and in the steps below.
+fn update_made(s: Settings, users: &[u8], room: usize, b: Buffers) -> Left
+    requires { ⌜ room ≤ length (b .request) ⌝ }
+    ensures { λ r. ⌜ r ≡ updateMade s (now (users .entry)) room b ⌝ }
+{
+    let log = key::LOG;
+    let kept = b.kept;
+    let mut call = b.call;
+    let held = b.held;
+    let mut request = b.request;
+    let asked = using::update_start(
+        s.servers,
+        s.own,
+        &log,
+        users,
+        &kept,
+        &mut call,
+        &mut request[0..room],
+    );
+    start_left(asked, b, call, held, request)
+}
+
+// The start of a Read.
+fn read_made(s: Settings, users: &[u8], room: usize, b: Buffers) -> Left
+    requires { ⌜ room ≤ length (b .request) ⌝ }
+    ensures { λ r. ⌜ r ≡ readMade s (now (users .entry)) room b ⌝ }
+{
+    let log = key::LOG;
+    let kept = b.kept;
+    let mut call = b.call;
+    let held = b.held;
+    let mut request = b.request;
+    let entry = b.entry;
+    let asked = using::read_start(
+        s.servers,
+        s.own,
+        &log,
+        users,
+        s.number,
+        &kept,
+        &mut call,
+        &mut request[0..room],
+        bytes::front(&entry, s.entry as usize),
+    );
+    start_left(asked, b, call, held, request)
+}
+
+// The start of a Write of this entry.
+fn write_made(s: Settings, users: &[u8], tree: &[u8], room: usize, entry: &[u8], b: Buffers) -> Left
+    requires { ⌜ room ≤ length (b .request) ⌝ }
+    ensures { λ r. ⌜ r ≡ writeMade s (now (users .entry)) (now (tree .entry)) room (now (entry .entry)) b ⌝ }
+{
+    let log = key::LOG;
+    let randomizer = [(s.number % 256) as u8; 32];
+    let kept = b.kept;
+    let path = b.path;
+    let mut call = b.call;
+    let mut held = b.held;
+    let mut request = b.request;
+    let asked = using::write_start(
+        s.servers,
+        s.own,
+        &log,
+        users,
+        tree,
+        entry,
+        &randomizer,
+        &kept,
+        &path,
+        &mut call,
+        &mut held,
+        &mut request[0..room],
+    );
+    start_left(asked, b, call, held, request)
+}
+
+// The part of the own key tree that is lent.
+fn tree_lent(s: Settings, keys: &[u8]) -> &[u8]
+    ensures { λ r. ⌜ now r ≡ treeLent s (now (keys .entry)) ⌝ }
+{
+    bytes::front(key::tree_of(keys, (s.own % 256) as u8), s.tree as usize)
+}
+
+// An answer that is taken in, with the first `size` bytes of the entry buffer.
+fn answer_made(
+    s: Settings,
+    users: &[u8],
+    tree: &[u8],
+    room: usize,
+    size: usize,
+    answer: &[u8],
+    b: Buffers,
+) -> Left
+    requires { ⌜ (room ≤ length (b .request)) × (size ≤ length (b .entry)) ⌝ }
+    ensures { λ r. ⌜ r ≡ answerMade s (now (users .entry)) (now (tree .entry)) room size (now (answer .entry)) b ⌝ }
+{
+    let log = key::LOG;
+    let id = [(s.own % 256) as u8; 16];
+    let seed = [(s.own % 256) as u8; 32];
+    let mut kept = b.kept;
+    let mut path = b.path;
+    let mut signature = b.signature;
+    let mut call = b.call;
+    let mut hashes = b.hashes;
+    let mut held = b.held;
+    let mut request = b.request;
+    let mut entry = b.entry;
+    let asked = taking::take(
+        s.servers,
+        s.own,
+        &log,
+        users,
+        &id,
+        &seed,
+        tree,
+        answer,
+        &mut kept,
+        &mut path,
+        &mut signature,
+        &mut call,
+        &mut hashes,
+        &mut held,
+        &mut request[0..room],
+        &mut entry[0..size],
+    );
+    let buffers = Buffers {
+        kept,
+        path,
+        signature,
+        call,
+        hashes,
+        held,
+        request,
+        entry,
+    };
+    Left { asked, buffers }
+}
