@@ -9,22 +9,13 @@ pub fn after(code: u32, servers_code: u32) {
     print::text(b"  what to do: ");
     if code == 11 {
         of_server(servers_code);
-    } else if code < 17 {
-        alarm();
     } else {
         of_user(code);
     }
     print::text(b"\n");
 }
 
-// Servers that follow the rules do not cause this.
-fn alarm() {
-    print::text(
-        b"ALARM. Run the command once more; where it is refused again, fire nothing new, keep the folder, compare with other users",
-    );
-}
-
-// After a server's own code.
+// After a server's own code; the alarm is for what servers that follow the rules do not cause.
 fn of_server(code: u32) {
     if code == 4 || code == 8 {
         print::text(
@@ -41,31 +32,29 @@ fn of_server(code: u32) {
     }
 }
 
-// After a code that a user gives without an alarm.
+// After a code that a user gives; 10 to 16 and 23 are an alarm.
 fn of_user(code: u32) {
-    match code {
-        17 => print::text(
-            b"the key is spent: make a new key, which needs a new list of users and a new log",
-        ),
-        18 => print::text(b"run the open write's command again; then this one"),
-        19 => print::text(
-            b"mend the entry: at most 1,023 bytes of text, or a position from 1 to the version to strike",
-        ),
-        20 => print::text(b"the log is full: begin a new one"),
-        22 => print::text(
-            b"the state is damaged or of another log: this key must not sign any more; make a new one",
-        ),
-        23 => alarm(),
-        24 => print::text(
-            b"name a position from 1 to the version; `update` brings the version up to date",
-        ),
-        26 => print::text(b"mend the schedule"),
-        1000 => print::text(
-            b"the state could not be saved: see to the disk, and run the command again",
-        ),
-        1001 => print::text(
-            b"the server did not answer: see to its link, and run the command again",
-        ),
-        _ => print::text(b"tell the makers: this code should not come here"),
+    if code < 17 || code == 23 {
+        alarm();
+        return;
     }
+    print::said_of(
+        code,
+        b"17 the key is spent: make a new key, which needs a new list of users and a new log\n\
+        18 run the open write's command again; then this one\n\
+        19 mend the entry: at most 1,023 bytes of text, or a position from 1 to the version to strike\n\
+        20 the log is full: begin a new one\n\
+        22 the state is damaged or of another log: this key must not sign any more; make a new one\n\
+        24 name a position from 1 to the version; `update` brings the version up to date\n\
+        26 mend the schedule\n\
+        1000 the state could not be saved: see to the disk, and run the command again\n\
+        1001 the server did not answer: see to its link, and run the command again\n\
+        else tell the makers: this code should not come here",
+    );
+}
+
+fn alarm() {
+    print::text(
+        b"ALARM. Run the command once more; where it is refused again, fire nothing new, keep the folder, compare with other users",
+    );
 }

@@ -10,14 +10,7 @@ use programs::print;
 use state_files::arguments::Settings;
 
 // Reads the whole view and prints its board, or the first refusal of a read.
-pub fn draw(
-    g: Settings,
-    file: i32,
-    users: &[u8],
-    keys: &[u8],
-    memory: &mut [u8],
-    links: &mut [i32],
-) {
+pub fn draw(g: Settings, file: i32, keys: &[u8], memory: &mut [u8]) {
     let v = show::version(memory);
     if 4096 < v {
         print::text(b"the board is drawn for at most 4096 entries\n");
@@ -26,31 +19,22 @@ pub fn draw(
     let n = line::at_most(v, 4096);
     let mut space = [0u32; 4096];
     let targets: &mut [u32] = &mut space;
-    if read_targets(g, file, n, users, keys, memory, links, targets) {
+    if read_targets(g, file, n, keys, memory, targets) {
         return;
     }
     let mut marks = [0u32; 4096];
     let standing: &mut [u32] = &mut marks;
     entry_board::board(targets, standing);
-    print::number(b"of ", n);
-    print::text(b" entries these insertions stand:\n");
-    print_standing(g, file, n, users, keys, memory, links, standing);
+    print::filled(b"of # entries these insertions stand:\n", &[v]);
+    print_standing(g, file, n, keys, memory, standing);
 }
 
 // What stands for a target where a Read was refused.
 const REFUSED: u32 = 4294967295;
 
 // Reads an entry and answers its target, 0 for an insertion. A read that is refused is printed.
-fn read_target(
-    g: Settings,
-    file: i32,
-    position: u32,
-    users: &[u8],
-    keys: &[u8],
-    memory: &mut [u8],
-    links: &mut [i32],
-) -> u32 {
-    let asked = command::read(g, file, position, users, keys, memory, links);
+fn read_target(g: Settings, file: i32, position: u32, keys: &[u8], memory: &mut [u8]) -> u32 {
+    let asked = command::read(g, file, position, keys, memory);
     if asked.code != 0 {
         show::outcome(asked, memory);
         return REFUSED;
@@ -63,10 +47,8 @@ fn read_targets(
     g: Settings,
     file: i32,
     n: usize,
-    users: &[u8],
     keys: &[u8],
     memory: &mut [u8],
-    links: &mut [i32],
     targets: &mut [u32],
 ) -> bool
     requires { ⌜ (n ≤ 4096) × (length (now targets) ≡ 4096) ⌝ }
@@ -74,7 +56,7 @@ fn read_targets(
     let mut k: usize = 0;
     while k < n {
         let p = (k % 4096) as u32 + 1;
-        let target = read_target(g, file, p, users, keys, memory, links);
+        let target = read_target(g, file, p, keys, memory);
         if target == REFUSED {
             return true;
         }
@@ -90,15 +72,13 @@ fn print_marked(
     file: i32,
     mark: u32,
     position: u32,
-    users: &[u8],
     keys: &[u8],
     memory: &mut [u8],
-    links: &mut [i32],
 ) -> bool {
     if mark != 1 {
         return false;
     }
-    command::read_and_show(g, file, position, users, keys, memory, links)
+    command::read_and_show(g, file, position, keys, memory)
 }
 
 // Prints the entries among the first n that are marked.
@@ -106,10 +86,8 @@ fn print_standing(
     g: Settings,
     file: i32,
     n: usize,
-    users: &[u8],
     keys: &[u8],
     memory: &mut [u8],
-    links: &mut [i32],
     standing: &[u32],
 )
     requires { ⌜ (n ≤ 4096) × (length (now standing) ≡ 4096) ⌝ }
@@ -117,7 +95,7 @@ fn print_standing(
     let mut k: usize = 0;
     while k < n {
         let p = (k % 4096) as u32 + 1;
-        if print_marked(g, file, standing[k], p, users, keys, memory, links) {
+        if print_marked(g, file, standing[k], p, keys, memory) {
             return;
         }
         k += 1;

@@ -46,35 +46,30 @@ pub fn save(file: i32, memory: &mut [u8]) -> bool {
 }
 
 // Sends the request that a step handed out, and reads the answer. Answers its length, 65,536 where none came.
-fn ask(asked: Asked, memory: &[u8], links: &mut [i32], answer: &mut [u8]) -> usize {
+fn ask(asked: Asked, memory: &mut [u8], answer: &mut [u8]) -> usize {
+    if !links::open(asked.server, memory) {
+        return links::NONE;
+    }
     let request = bytes::front(bytes::from(memory, step::REQUEST), asked.length as usize);
-    links::ask(asked.server, request, links, answer)
+    links::ask(asked.server, request, memory, answer)
 }
 
 // Sends the request that a step handed out, and takes in the answer.
-fn exchange(
-    g: Settings,
-    file: i32,
-    asked: Asked,
-    users: &[u8],
-    keys: &[u8],
-    memory: &mut [u8],
-    links: &mut [i32],
-) -> Asked {
+fn exchange(g: Settings, file: i32, asked: Asked, keys: &[u8], memory: &mut [u8]) -> Asked {
     if !save(file, memory) {
         return ended(NOT_SAVED, 0);
     }
     let mut room = [0u8; 4096];
     let answer: &mut [u8] = &mut room;
-    let n = ask(asked, memory, links, answer);
-    if n == 65536 {
+    let n = ask(asked, memory, answer);
+    if n == links::NONE {
         return ended(NO_ANSWER, asked.server);
     }
     let taken = Step {
         kind: 0,
         position: 0,
     };
-    step::run(g, taken, users, keys, bytes::front(answer, n), memory)
+    step::run(g, taken, keys, bytes::front(answer, n), memory)
 }
 
 // A call from its start to its end: the input is the entry of a Write. No call takes more than 128 answers.
@@ -82,19 +77,17 @@ pub fn run(
     g: Settings,
     file: i32,
     start: Step,
-    users: &[u8],
     keys: &[u8],
     input: &[u8],
     memory: &mut [u8],
-    links: &mut [i32],
 ) -> Asked {
-    let mut asked = step::run(g, start, users, keys, input, memory);
+    let mut asked = step::run(g, start, keys, input, memory);
     let mut left: u8 = 128;
     while left > 0 {
         if asked.ended == 1 {
             left = 0;
         } else {
-            asked = exchange(g, file, asked, users, keys, memory, links);
+            asked = exchange(g, file, asked, keys, memory);
             left -= 1;
         }
     }

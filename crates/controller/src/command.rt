@@ -1,6 +1,7 @@
 // The commands, but for `key`.
 use crate::board;
 use crate::call;
+use crate::key;
 use crate::show;
 use crate::step;
 use crate::step::Step;
@@ -13,12 +14,12 @@ use state_files::arguments::Settings;
 use state_files::user_file;
 
 // A user's Update.
-fn update(g: Settings, file: i32, users: &[u8], keys: &[u8], memory: &mut [u8], links: &mut [i32]) {
+fn update(g: Settings, file: i32, keys: &[u8], memory: &mut [u8]) {
     let start = Step {
         kind: 1,
         position: 0,
     };
-    let asked = call::run(g, file, start, users, keys, b"", memory, links);
+    let asked = call::run(g, file, start, keys, b"", memory);
     show::outcome(asked, memory);
     show::open_write(memory);
 }
@@ -32,34 +33,19 @@ fn note_entry(e: &[u8], memory: &mut [u8]) {
 }
 
 // A user's Write of an entry. A write of the same entry that is open is resumed.
-fn write(
-    g: Settings,
-    file: i32,
-    users: &[u8],
-    keys: &[u8],
-    e: &[u8],
-    memory: &mut [u8],
-    links: &mut [i32],
-) {
+fn write(g: Settings, file: i32, keys: &[u8], e: &[u8], memory: &mut [u8]) {
     note_entry(e, memory);
     let start = Step {
         kind: 2,
         position: 0,
     };
-    let asked = call::run(g, file, start, users, keys, e, memory, links);
+    let asked = call::run(g, file, start, keys, e, memory);
     show::outcome(asked, memory);
     show::open_write(memory);
 }
 
 // Writes the text of argument 8.
-fn write_text(
-    g: Settings,
-    file: i32,
-    users: &[u8],
-    keys: &[u8],
-    memory: &mut [u8],
-    links: &mut [i32],
-) {
+fn write_text(g: Settings, file: i32, keys: &[u8], memory: &mut [u8]) {
     let mut room = [0u8; 2048];
     let text: &mut [u8] = &mut room;
     let n = os::arg(8, text);
@@ -70,36 +56,20 @@ fn write_text(
     let mut room_2 = [0u8; 2049];
     let e: &mut [u8] = &mut room_2;
     bytes::put2(e, 0, &[1], bytes::front(text, n));
-    write(
-        g,
-        file,
-        users,
-        keys,
-        bytes::front(e, n % 4096 + 1),
-        memory,
-        links,
-    );
+    write(g, file, keys, bytes::front(e, n % 4096 + 1), memory);
 }
 
 // Strikes the position of argument 8.
-fn strike(g: Settings, file: i32, users: &[u8], keys: &[u8], memory: &mut [u8], links: &mut [i32]) {
+fn strike(g: Settings, file: i32, keys: &[u8], memory: &mut [u8]) {
     let p = bytes::be4(arguments::number(8));
     let e = [2, p[0], p[1], p[2], p[3]];
-    write(g, file, users, keys, &e, memory, links);
+    write(g, file, keys, &e, memory);
 }
 
 // A user's Read.
-pub fn read(
-    g: Settings,
-    file: i32,
-    position: u32,
-    users: &[u8],
-    keys: &[u8],
-    memory: &mut [u8],
-    links: &mut [i32],
-) -> Asked {
+pub fn read(g: Settings, file: i32, position: u32, keys: &[u8], memory: &mut [u8]) -> Asked {
     let start = Step { kind: 3, position };
-    call::run(g, file, start, users, keys, b"", memory, links)
+    call::run(g, file, start, keys, b"", memory)
 }
 
 // The entry that a Read found.
@@ -112,12 +82,10 @@ pub fn read_and_show(
     g: Settings,
     file: i32,
     position: u32,
-    users: &[u8],
     keys: &[u8],
     memory: &mut [u8],
-    links: &mut [i32],
 ) -> bool {
-    let asked = read(g, file, position, users, keys, memory, links);
+    let asked = read(g, file, position, keys, memory);
     if asked.code == 0 {
         show::found(position, asked.author, entry_of(asked, memory));
         return false;
@@ -127,36 +95,34 @@ pub fn read_and_show(
 }
 
 // Whether the own operation of argument 8 is settled.
-fn settled(g: Settings, users: &[u8], memory: &[u8]) {
+fn settled(g: Settings, keys: &[u8], memory: &[u8]) {
     let mut kept = [0u8; 42];
     step::load(memory, user_file::KEPT, &mut kept);
     let log = g.log;
-    let s = using::settled(g.servers, g.own, &log, users, &kept, arguments::number(8));
-    print::number(b"code ", s.code as usize);
-    print::number(b", settled ", s.settled as usize);
-    print::text(b"\n");
+    let s = using::settled(
+        g.servers,
+        g.own,
+        &log,
+        key::users(keys),
+        &kept,
+        arguments::number(8),
+    );
+    print::filled(b"code #, settled #\n", &[s.code, s.settled]);
 }
 
 // Runs the command of argument 7.
-pub fn run(
-    g: Settings,
-    file: i32,
-    users: &[u8],
-    keys: &[u8],
-    memory: &mut [u8],
-    links: &mut [i32],
-) {
+pub fn run(g: Settings, file: i32, keys: &[u8], memory: &mut [u8]) {
     if arguments::is(7, b"update") {
-        update(g, file, users, keys, memory, links);
+        update(g, file, keys, memory);
     } else if arguments::is(7, b"write") {
-        write_text(g, file, users, keys, memory, links);
+        write_text(g, file, keys, memory);
     } else if arguments::is(7, b"strike") {
-        strike(g, file, users, keys, memory, links);
+        strike(g, file, keys, memory);
     } else if arguments::is(7, b"read") {
-        read_and_show(g, file, arguments::number(8), users, keys, memory, links);
+        read_and_show(g, file, arguments::number(8), keys, memory);
     } else if arguments::is(7, b"board") {
-        board::draw(g, file, users, keys, memory, links);
+        board::draw(g, file, keys, memory);
     } else {
-        settled(g, users, memory);
+        settled(g, keys, memory);
     }
 }

@@ -1,5 +1,5 @@
 // A user's key, in the file `key` of its folder: identifier (16 bytes), seed (32), second secret (32), key tree (65,504) and a check (32).
-// The second secret is for randomizers. The public key is in the file `public`.
+// The second secret is for randomizers. The public key is in the file `public`. In memory the public keys of all users follow.
 ghost use mathlib.Core.Path.{_≡_};
 ghost use lib.ListN.{length};
 use sha256::bytes;
@@ -12,6 +12,13 @@ pub fn memory() -> [u8; 65616]
     ensures { λ r. ⌜ 65616 ≡ length r ⌝ }
 {
     [0; 65616]
+}
+
+// The memory of a key and of up to 65 users' public keys, zero.
+pub fn memory_with_users() -> [u8; 69256]
+    ensures { λ r. ⌜ 69256 ≡ length r ⌝ }
+{
+    [0; 69256]
 }
 
 pub fn identifier(key: &[u8]) -> [u8; 16] {
@@ -28,6 +35,11 @@ pub fn seed(key: &[u8]) -> [u8; 32] {
 
 pub fn tree(key: &[u8]) -> &[u8] {
     bytes::front(bytes::from(key, 80), 65504)
+}
+
+// The public keys of all users.
+pub fn users(key: &[u8]) -> &[u8] {
+    bytes::from(key, 65616)
 }
 
 // The randomizer of a signature: a hash of the second secret, the signature number and the entry. So a write that is resumed from the state

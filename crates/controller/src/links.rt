@@ -1,8 +1,14 @@
 // The links to the servers: for server K the files LINKSK.in, to which requests are written, and LINKSK.out, from which answers are read,
 // where LINKS is argument 6. A link is opened when its server is first asked: the file for requests first, since a server on named pipes
 // opens its input first.
+ghost use Prim.Native.Nat.{_≤_};
+use crate::step;
+use firing::segment;
 use frames::Frame;
 use sha256::bytes;
+
+// What stands for an answer's length where none came.
+pub const NONE: usize = 65536;
 
 // Lays k digits and an ending from a place on.
 fn lay(digits: &[u8; 20], k: usize, at: usize, ending: &[u8], out: &mut [u8]) {
@@ -36,25 +42,23 @@ fn open_file(server: u32, answers: bool) -> i32 {
     os::open_append(bytes::front(path, n))
 }
 
-// A descriptor of the links, 0 where there is none.
-fn descriptor(links: &[i32], at: usize) -> i32 {
-    if at < links.len() {
-        return links[at];
-    }
-    0
+// Where the descriptors of a server's link stand: the requests' first, then the answers', four bytes each. A link that is not open has
+// zeros.
+fn place(server: u32) -> usize
+    ensures { λ r. ⌜ r ≤ 15000 ⌝ }
+{
+    step::LINKS + 8 * (server % 32) as usize
 }
 
-// Notes a descriptor.
-fn note(links: &mut [i32], at: usize, fd: i32) {
-    if at < links.len() {
-        links[at] = fd;
-    }
+// The descriptor at a place.
+fn descriptor(memory: &[u8], at: usize) -> i32 {
+    (bytes::u32_at(memory, at) % 2147483648) as i32
 }
 
-// Opens a server's link where it is not open, which descriptor 0 stands for. Whether it is open then.
-fn open(server: u32, links: &mut [i32]) -> bool {
-    let at = 2 * (server % 32) as usize;
-    if descriptor(links, at) > 0 {
+// Opens a server's link where it is not open. Whether it is open then.
+pub fn open(server: u32, memory: &mut [u8]) -> bool {
+    let at = place(server);
+    if descriptor(memory, at) > 0 {
         return true;
     }
     let requests = open_file(server, false);
@@ -65,23 +69,22 @@ fn open(server: u32, links: &mut [i32]) -> bool {
     if answers < 0 {
         return false;
     }
-    note(links, at, requests);
-    note(links, at + 1, answers);
+    // neither is below 0, so the size of each is the number itself
+    let first = bytes::be4(segment::size(requests));
+    let second = bytes::be4(segment::size(answers));
+    bytes::put2(memory, at, &first, &second);
     true
 }
 
-// Sends a request to a server, and reads its answer to the front of a buffer. Answers its length, 65,536 where none came.
-pub fn ask(server: u32, request: &[u8], links: &mut [i32], answer: &mut [u8]) -> usize {
-    if !open(server, links) {
-        return 65536;
+// Sends a request to a server, and reads its answer to the front of a buffer. Answers its length, or that none came.
+pub fn ask(server: u32, request: &[u8], memory: &[u8], answer: &mut [u8]) -> usize {
+    let at = place(server);
+    if !frames::send(descriptor(memory, at), request) {
+        return NONE;
     }
-    let at = 2 * (server % 32) as usize;
-    if !frames::send(descriptor(links, at), request) {
-        return 65536;
-    }
-    match frames::receive(descriptor(links, at + 1), answer) {
+    match frames::receive(descriptor(memory, at + 4), answer) {
         Frame::Whole(n) => n,
-        Frame::End => 65536,
-        Frame::Cut => 65536,
+        Frame::End => NONE,
+        Frame::Cut => NONE,
     }
 }

@@ -22,10 +22,10 @@ use state_files::setup;
 use state_files::user_file;
 
 // The user's memory, zero. The `ensures` gives only the length, so that no proof computes with the list.
-fn memory() -> [u8; 14586]
-    ensures { λ r. ⌜ 14586 ≡ length r ⌝ }
+fn memory() -> [u8; 14842]
+    ensures { λ r. ⌜ 14842 ≡ length r ⌝ }
 {
-    [0; 14586]
+    [0; 14842]
 }
 
 // Whether argument 7 is a command that takes argument 8, or one that takes none.
@@ -57,8 +57,13 @@ fn main() {
     let folder = bytes::front(text, n);
     if os::arg_count() == 3 && arguments::is(2, b"key") {
         make_key(folder);
-        return;
+    } else {
+        use_log(folder);
     }
+}
+
+// Runs a command on a log, where the arguments are such a command's, while the folder's lock is held.
+fn use_log(folder: &[u8]) {
     let mut list = [0u8; 3640];
     let public: &mut [u8] = &mut list;
     let u = arguments::load(5, public);
@@ -108,15 +113,16 @@ fn run(g: Settings, folder: &[u8], users: &[u8]) {
 }
 
 // Runs the command on an open state.
-fn run_state(g: Settings, fd: i32, users: &[u8], keys: &[u8]) {
+fn run_state(g: Settings, fd: i32, users: &[u8], key: &[u8]) {
     let mut space = memory();
     let m: &mut [u8] = &mut space;
     if !load(g, fd, users, m) {
         return;
     }
-    let mut descriptors = [0i32; 64];
-    let links: &mut [i32] = &mut descriptors;
-    command::run(g, fd, users, keys, m, links);
+    let mut room = key::memory_with_users();
+    let keys: &mut [u8] = &mut room;
+    bytes::put2(keys, 0, key, users);
+    command::run(g, fd, bytes::front(keys, 65616 + users.len()), m);
 }
 
 // Loads the state that counts. Whether it is there and of this log.

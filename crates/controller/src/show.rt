@@ -26,12 +26,11 @@ pub fn outcome(asked: Asked, memory: &[u8]) {
     if code == 11 {
         print::number(b", the server's ", asked.refusal as usize);
     }
-    print::number(b", version ", version(memory) as usize);
-    print::number(
-        b", next signature number ",
-        bytes::u32_at(memory, user_file::KEPT + 36) as usize,
+    let number = bytes::u32_at(memory, user_file::KEPT + 36);
+    print::filled(
+        b", version #, next signature number #\n",
+        &[version(memory), number],
     );
-    print::text(b"\n");
     if code < 256 {
         sentence::refusal((code % 256) as u8, (asked.refusal % 256) as u8);
     }
@@ -44,8 +43,8 @@ pub fn contents(e: &[u8]) {
     if kind == 2 {
         print::number(b"strikes ", entry::target(e) as usize);
     } else if kind == 3 {
-        print::number(b"a firing schedule of ", bytes::byte_at(e, 1) as usize);
-        print::text(b" segments");
+        let segments = bytes::byte_at(e, 1);
+        print::filled(b"a firing schedule of # segments", &[segments as u32]);
     } else {
         print::text(bytes::from(e, 1));
     }
@@ -54,9 +53,7 @@ pub fn contents(e: &[u8]) {
 
 // An entry that was read.
 pub fn found(position: u32, author: u32, e: &[u8]) {
-    print::number(b"", position as usize);
-    print::number(b", by user ", author as usize);
-    print::text(b": ");
+    print::filled(b"#, by user #: ", &[position, author]);
     contents(e);
 }
 

@@ -1,5 +1,5 @@
-// A step of a user's call: its start, or an answer that it takes in. The user's memory is one slice of 14,586 bytes: its state
-// (`user_file`), the state as it was saved last, the call, its hashes, the held entry, the request and the entry that is read.
+// A step of a user's call: its start, or an answer that it takes in. The user's memory is one slice of 14,842 bytes: its state
+// (`user_file`), the state as it was saved last, the call, its hashes, the held entry, the request, the entry that is read and the links.
 use crate::key;
 use c_layout::taking;
 use c_layout::using;
@@ -8,7 +8,7 @@ use sha256::bytes;
 use state_files::arguments::Settings;
 use state_files::user_file;
 
-// The memory: the state, the state as it was saved last, and a call's.
+// The memory: the state, the state as it was saved last, a call's, and the links.
 pub const SAVED: usize = 4320;
 
 const CALL: usize = 8640;
@@ -20,6 +20,8 @@ const HELD: usize = 9970;
 pub const REQUEST: usize = 10996;
 
 pub const ENTRY: usize = 13562;
+
+pub const LINKS: usize = 14586;
 
 // What a step does: 0 takes in an answer, 1 starts an Update, 2 a Write, 3 a Read of the entry at a position.
 pub struct Step {
@@ -48,7 +50,6 @@ fn keep_call(call: &[u8; 82], hashes: &[u8; 1248], held: &[u8; 1026], memory: &m
 fn start(
     g: Settings,
     step: Step,
-    users: &[u8],
     keys: &[u8],
     input: &[u8],
     kept: &[u8; 42],
@@ -61,6 +62,7 @@ fn start(
     let n = g.servers;
     let own = g.own;
     let log = g.log;
+    let users = key::users(keys);
     if step.kind == 1 {
         return using::update_start(n, own, &log, users, kept, call, request);
     }
@@ -77,12 +79,27 @@ fn start(
             entry,
         );
     }
+    write_start(g, keys, input, kept, path, call, held, request)
+}
+
+// The start of a Write.
+fn write_start(
+    g: Settings,
+    keys: &[u8],
+    input: &[u8],
+    kept: &[u8; 42],
+    path: &[u8; 672],
+    call: &mut [u8; 82],
+    held: &mut [u8; 1026],
+    request: &mut [u8],
+) -> Asked {
+    let log = g.log;
     let randomizer = key::randomizer(keys, bytes::front(bytes::from(kept, 36), 4), input);
     using::write_start(
-        n,
-        own,
+        g.servers,
+        g.own,
         &log,
-        users,
+        key::users(keys),
         key::tree(keys),
         input,
         &randomizer,
@@ -98,7 +115,6 @@ fn start(
 fn lent(
     g: Settings,
     step: Step,
-    users: &[u8],
     keys: &[u8],
     input: &[u8],
     kept: &mut [u8; 42],
@@ -111,19 +127,7 @@ fn lent(
     entry: &mut [u8],
 ) -> Asked {
     if 0 < step.kind {
-        return start(
-            g,
-            step,
-            users,
-            keys,
-            input,
-            kept,
-            path,
-            call,
-            held,
-            request,
-            entry,
-        );
+        return start(g, step, keys, input, kept, path, call, held, request, entry);
     }
     let log = g.log;
     let id = key::identifier(keys);
@@ -132,7 +136,7 @@ fn lent(
         g.servers,
         g.own,
         &log,
-        users,
+        key::users(keys),
         &id,
         &seed,
         key::tree(keys),
@@ -152,7 +156,6 @@ fn lent(
 fn on_call(
     g: Settings,
     step: Step,
-    users: &[u8],
     keys: &[u8],
     input: &[u8],
     kept: &mut [u8; 42],
@@ -175,7 +178,6 @@ fn on_call(
     let asked = lent(
         g,
         step,
-        users,
         keys,
         input,
         kept,
@@ -187,21 +189,13 @@ fn on_call(
         request,
         entry,
     );
-    bytes::put(memory, REQUEST, request);
-    bytes::put(memory, ENTRY, entry);
+    bytes::put2(memory, REQUEST, request, entry);
     keep_call(&call, &hashes, &held, memory);
     asked
 }
 
 // A step of a call on a user's state. The input is the entry of a Write, or the answer that is taken in.
-pub fn run(
-    g: Settings,
-    step: Step,
-    users: &[u8],
-    keys: &[u8],
-    input: &[u8],
-    memory: &mut [u8],
-) -> Asked {
+pub fn run(g: Settings, step: Step, keys: &[u8], input: &[u8], memory: &mut [u8]) -> Asked {
     let mut kept = [0u8; 42];
     let mut path = [0u8; 672];
     let mut signature = [0u8; 2508];
@@ -211,7 +205,6 @@ pub fn run(
     let asked = on_call(
         g,
         step,
-        users,
         keys,
         input,
         &mut kept,

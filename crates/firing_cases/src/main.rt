@@ -60,7 +60,7 @@ fn firing_from_20(text: &[u8]) {
     let mut space = [0u8; 1025];
     let n = entry::make(text, &mut space);
     let f = schedule::report(bytes::front(&space, n));
-    print::reported(f.code, b", minutes ", f.minutes, b", peak ", f.peak);
+    print::filled(b"code #, minutes #, peak #", &[f.code, f.minutes, f.peak]);
 }
 
 // The least and the greatest minutes from a range of starts, whose ends are the first two numbers; the others make an entry.
@@ -73,7 +73,10 @@ fn warm_totals(text: &[u8]) {
         numbers::number(text),
         numbers::number(to),
     );
-    print::reported(t.code, b", least ", t.least, b", greatest ", t.greatest);
+    print::filled(
+        b"code #, least #, greatest #",
+        &[t.code, t.least, t.greatest],
+    );
 }
 
 // The earliest start for a minute, a length and windows, which are numbers in this order.
@@ -105,6 +108,5 @@ fn start_of_schedule(text: &[u8]) {
 }
 
 fn print_start(s: Start) {
-    print::number(b"code ", s.code as usize);
-    print::number(b", start ", s.start as usize);
+    print::filled(b"code #, start #", &[s.code, s.start]);
 }

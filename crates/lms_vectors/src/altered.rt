@@ -4,11 +4,11 @@ use crate::report;
 use sha256::bytes;
 
 // Reads an accepted record, with a byte behind its key and its signature, and runs the changes below.
-pub fn run(path: &[u8]) {
+pub fn run(name: &[u8]) {
     let mut key = [0u8; 57];
     let mut signature = [0u8; 2509];
     let mut message = [0u8; 256];
-    let n = record::fields(path, &mut key, &mut signature, &mut message);
+    let n = record::fields(name, b".txt", &mut key, &mut signature, &mut message);
     each(&mut key, bytes::front(&message, n.third), &mut signature);
 }
 

@@ -5,45 +5,35 @@ mod made;
 mod record;
 mod report;
 
+use sha256::bytes;
+
 fn main() {
-    made::run(
-        b"rfc8554_case2_top",
-        b"rfc8554_case2_top_key.txt",
-        b"rfc8554_case2_top.txt",
-        3,
+    made::run(b"rfc8554_case2_top", 3);
+    made::run(b"hashsigs_hss2_level0", 4);
+    checks(
+        b"",
+        b"rfc8554_case2_top\n\
+        hashsigs_hss2_level0\n\
+        acvp_h10_w4_no_modification\n\
+        acvp_h10_w4_modify_message\n\
+        acvp_h10_w4_modify_signature\n\
+        acvp_h10_w4_modify_signature_header\n",
     );
-    made::run(
-        b"hashsigs_hss2_level0",
-        b"hashsigs_hss2_level0_key.txt",
-        b"hashsigs_hss2_level0.txt",
-        4,
+    checks(
+        b"another set: ",
+        b"rfc8554_case1_top\nrfc8554_case1_second\nrfc8554_case2_second\n",
     );
-    record::check(b"rfc8554_case2_top", b"rfc8554_case2_top.txt");
-    record::check(b"hashsigs_hss2_level0", b"hashsigs_hss2_level0.txt");
-    record::check(
-        b"acvp_h10_w4_no_modification",
-        b"acvp_h10_w4_no_modification.txt",
-    );
-    record::check(
-        b"acvp_h10_w4_modify_message",
-        b"acvp_h10_w4_modify_message.txt",
-    );
-    record::check(
-        b"acvp_h10_w4_modify_signature",
-        b"acvp_h10_w4_modify_signature.txt",
-    );
-    record::check(
-        b"acvp_h10_w4_modify_signature_header",
-        b"acvp_h10_w4_modify_signature_header.txt",
-    );
-    record::check(b"another set: rfc8554_case1_top", b"rfc8554_case1_top.txt");
-    record::check(
-        b"another set: rfc8554_case1_second",
-        b"rfc8554_case1_second.txt",
-    );
-    record::check(
-        b"another set: rfc8554_case2_second",
-        b"rfc8554_case2_second.txt",
-    );
-    altered::run(b"rfc8554_case2_top.txt");
+    altered::run(b"rfc8554_case2_top");
+}
+
+// Checks each of the records that a text names, a name to a line.
+fn checks(before: &[u8], names: &[u8]) {
+    let mut at: usize = 0;
+    while at < names.len() {
+        let rest = bytes::from(names, at);
+        let n = lines::find(rest, b'\n');
+        report::text(before);
+        record::check(bytes::front(rest, n));
+        at += n + 1;
+    }
 }

@@ -3,8 +3,11 @@
 use crate::report;
 use sha256::bytes;
 
-// Reads a file to the start of text, and answers how many bytes it has.
-fn read(path: &[u8], text: &mut [u8]) -> usize {
+// Reads the file with a name and an ending, of at most 64 bytes together, to the start of text, and answers how many bytes it has.
+fn read(name: &[u8], ending: &[u8], text: &mut [u8]) -> usize {
+    let mut room = [0u8; 64];
+    bytes::put2(&mut room, 0, name, ending);
+    let path = bytes::front(&room, name.len() + ending.len());
     let fd = os::open_read(path);
     if fd < 0 {
         os::fail(path);
@@ -32,9 +35,15 @@ pub struct Lengths {
 }
 
 // Reads a file, and lays what each of its three lines stands for to the front of a buffer, as far as it has room.
-pub fn fields(path: &[u8], first: &mut [u8], second: &mut [u8], third: &mut [u8]) -> Lengths {
+pub fn fields(
+    name: &[u8],
+    ending: &[u8],
+    first: &mut [u8],
+    second: &mut [u8],
+    third: &mut [u8],
+) -> Lengths {
     let mut text = [0u8; 8192];
-    let n = read(path, &mut text);
+    let n = read(name, ending, &mut text);
     let one = bytes::front(&text, n);
     let two = after_line(one);
     Lengths {
@@ -45,11 +54,11 @@ pub fn fields(path: &[u8], first: &mut [u8], second: &mut [u8], third: &mut [u8]
 }
 
 // Checks a record's signature and prints the answer.
-pub fn check(name: &[u8], path: &[u8]) {
+pub fn check(name: &[u8]) {
     let mut key = [0u8; 56];
     let mut signature = [0u8; 2508];
     let mut message = [0u8; 256];
-    let n = fields(path, &mut key, &mut signature, &mut message);
+    let n = fields(name, b".txt", &mut key, &mut signature, &mut message);
     report::answer(
         name,
         lms::check(

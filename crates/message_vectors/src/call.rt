@@ -5,12 +5,13 @@ use crate::world;
 use exchange::server_place;
 use exchange::user_place;
 use exchange::user_place::Settings;
+use programs::place;
 use programs::print;
 use sha256::bytes;
 
-// What a step of a kind is made with: two users are listed.
-fn settings(own: u8, kind: u8, number: u32) -> Settings {
-    Settings {
+// One step of a user, on a copy of its place: two users are listed.
+fn step(own: u8, kind: u8, number: u32, input: &[u8], world: &mut [u8]) {
+    let usual = Settings {
         servers: world::SERVERS as u32,
         own: own as u32,
         kind,
@@ -19,83 +20,73 @@ fn settings(own: u8, kind: u8, number: u32) -> Settings {
         tree: 65504,
         request: 2566,
         entry: 1024,
-    }
-}
-
-// One step of a user.
-fn step(s: Settings, input: &[u8], world: &mut [u8], keys: &[u8]) {
-    let at = world::user_at((s.own % 256) as u8);
-    if world.len() < at + 16384 {
-        return;
-    }
-    user_place::step(s, keys, input, &mut world[at..at + 16384]);
+    };
+    let mut place = [0u8; 16384];
+    let at = place::at(own);
+    user_place::load(world, at, &mut place);
+    user_place::step(usual, world::keys(world), input, &mut place);
+    bytes::put(world, at, &place);
 }
 
 // An Update, to its end.
-pub fn update(own: u8, world: &mut [u8], keys: &[u8]) {
-    begin(b"\nUpdate by user ", own);
-    step(settings(own, 1, 0), b"", world, keys);
-    answers(own, world, keys);
+pub fn update(own: u8, world: &mut [u8]) {
+    print::filled(b"\nUpdate by user #\n", &[own as u32]);
+    step(own, 1, 0, b"", world);
+    answers(own, world);
     end(own, world);
 }
 
 // A Write of an entry, to its end. Its randomizer repeats one byte, 16 plus the number of its signature.
-pub fn write(own: u8, entry: &[u8], world: &mut [u8], keys: &[u8]) {
-    let number = bytes::u32_at(world::user(own, world), user_place::NUMBER) % 200 + 16;
-    begin(b"\nWrite by user ", own);
+pub fn write(own: u8, entry: &[u8], world: &mut [u8]) {
+    let number = bytes::u32_at(place::of(own, world), user_place::NUMBER) % 200 + 16;
+    print::filled(b"\nWrite by user #\n", &[own as u32]);
     hex::line(b"entry ", entry);
     hex::line(b"randomizer ", &[(number % 256) as u8; 32]);
-    step(settings(own, 2, number), entry, world, keys);
-    answers(own, world, keys);
+    step(own, 2, number, entry, world);
+    answers(own, world);
     end(own, world);
 }
 
 // A Read of a position, to its end, and what it found.
-pub fn read(own: u8, position: u32, world: &mut [u8], keys: &[u8]) {
-    begin(b"\nRead by user ", own);
-    print::number(b"position ", position as usize);
-    print::text(b"\n");
-    step(settings(own, 3, position), b"", world, keys);
-    answers(own, world, keys);
+pub fn read(own: u8, position: u32, world: &mut [u8]) {
+    print::filled(b"\nRead by user #\nposition #\n", &[own as u32, position]);
+    step(own, 3, position, b"", world);
+    answers(own, world);
     end(own, world);
-    let place = world::user(own, world);
-    print::number(
-        b"author ",
-        bytes::u16_at(place, user_place::AUTHOR) as usize,
-    );
-    print::text(b"\n");
-    hex::line(b"entry ", user_place::entry_of(place));
+    print_found(place::of(own, world));
 }
 
-fn begin(what: &[u8], own: u8) {
-    print::number(what, own as usize);
-    print::text(b"\n");
+// What a Read found.
+fn print_found(place: &[u8]) {
+    let author = bytes::u16_at(place, user_place::AUTHOR);
+    print::filled(b"author #\n", &[author as u32]);
+    hex::line(b"entry ", user_place::entry_of(place));
 }
 
 // What a call left: its code, and what the user keeps.
 fn end(own: u8, world: &[u8]) {
-    let place = world::user(own, world);
-    print::number(b"code ", bytes::byte_at(place, user_place::CODE) as usize);
-    print::text(b"\n");
+    let place = place::of(own, world);
+    let code = bytes::byte_at(place, user_place::CODE);
+    print::filled(b"code #\n", &[code as u32]);
     hex::line(b"kept ", bytes::front(place, user_place::CALL));
 }
 
 // Takes in answers until the call ends. No call takes more than 99.
-fn answers(own: u8, world: &mut [u8], keys: &[u8]) {
+fn answers(own: u8, world: &mut [u8]) {
     let mut taken: u32 = 0;
     while taken < 99 {
-        if user_place::ended(world::user(own, world)) {
+        if user_place::ended(place::of(own, world)) {
             return;
         }
-        turn(own, world, keys);
+        turn(own, world);
         taken += 1;
     }
 }
 
 // One answer of the server that a user asks, taken in.
-fn turn(own: u8, world: &mut [u8], keys: &[u8]) {
+fn turn(own: u8, world: &mut [u8]) {
     let mut request = [0u8; 2566];
-    let place = world::user(own, world);
+    let place = place::of(own, world);
     let server = bytes::byte_at(place, user_place::SERVER);
     let asked = user_place::request_of(place);
     let n = asked.len();
@@ -106,63 +97,39 @@ fn turn(own: u8, world: &mut [u8], keys: &[u8]) {
         world::PLACE,
         bytes::front(&request, n),
         world,
-        keys,
         &mut answer,
     );
-    step(
-        settings(own, 0, 0),
-        bytes::front(&answer, size),
-        world,
-        keys,
-    );
+    step(own, 0, 0, bytes::front(&answer, size), world);
 }
 
 // A request to a server on the first `room` bytes of its place, and what came of it, printed: the answer, the head and the used length
 // after it, and the record that was stored, where one was. Hands back the answer's length.
-pub fn ask(
-    server: u8,
-    room: usize,
-    request: &[u8],
-    world: &mut [u8],
-    keys: &[u8],
-    answer: &mut [u8],
-) -> usize
+pub fn ask(server: u8, room: usize, request: &[u8], world: &mut [u8], answer: &mut [u8]) -> usize
     requires { ⌜ room ≤ 8192 ⌝ }
 {
     let before = world::used(server, world);
-    print::number(b"server ", server as usize);
-    print::text(b"\n");
+    print::filled(b"server #\n", &[server as u32]);
     hex::line(b"request ", request);
-    let n = serve(server, room, request, world, keys, answer);
+    let n = serve(server, room, request, world, answer);
     hex::line(b"answer ", bytes::front(answer, n));
     world::print_server(server, world);
     print_record(world::stored_from(server, before, world));
     n
 }
 
-// The call of the server. Hands back the answer's length.
-fn serve(
-    server: u8,
-    room: usize,
-    request: &[u8],
-    world: &mut [u8],
-    keys: &[u8],
-    answer: &mut [u8],
-) -> usize
+// The call of the server, with a copy of the user list. Hands back the answer's length.
+fn serve(server: u8, room: usize, request: &[u8], world: &mut [u8], answer: &mut [u8]) -> usize
     requires { ⌜ room ≤ 8192 ⌝ }
 {
+    let mut users = [0u8; 112];
+    user_place::load(world::keys(world), 0, &mut users);
     let at = world::server_at(server);
     if world.len() < at + room {
         return 0;
     }
-    let out = server_place::serve(
-        world::SERVERS as u32,
-        server as u32,
-        bytes::front(keys, 112),
-        &mut world[at..at + room],
-        request,
-        answer,
-    );
+    let place = &mut world[at..at + room];
+    let n = world::SERVERS as u32;
+    let out = server_place::serve(n, server as u32, &users, place, request, answer);
     out.answer as usize
 }
 

@@ -11,12 +11,12 @@ use programs::print;
 use sha256::bytes;
 
 fn main() {
-    let keys = key::of_two();
-    let mut places = io::large_buffer();
-    let world: &mut [u8] = &mut places;
-    setup(&keys);
-    honest_run(world, &keys);
-    refused::requests(world, &keys);
+    let mut memory = world::memory();
+    let world: &mut [u8] = &mut memory;
+    world::lay_keys(world);
+    setup(world::keys(world));
+    honest_run(world);
+    refused::requests(world);
     world::print_servers(world);
 }
 
@@ -32,8 +32,7 @@ fn setup(keys: &[u8]) {
 
 // A user's key: seed, identifier and public key.
 fn user(own: u8, keys: &[u8]) {
-    print::number(b"\nuser ", own as usize);
-    print::text(b"\n");
+    print::filled(b"\nuser #\n", &[own as u32]);
     hex::line(b"seed ", &[own; 32]);
     hex::line(b"identifier ", &[own; 16]);
     hex::line(
@@ -43,26 +42,26 @@ fn user(own: u8, keys: &[u8]) {
 }
 
 // Five entries, and what the users then ask for.
-fn honest_run(world: &mut [u8], keys: &[u8]) {
-    first_entries(world, keys);
-    later_entries(world, keys);
-    call::update(2, world, keys);
-    call::read(2, 2, world, keys);
-    call::read(2, 5, world, keys);
+fn honest_run(world: &mut [u8]) {
+    first_entries(world);
+    later_entries(world);
+    call::update(2, world);
+    call::read(2, 2, world);
+    call::read(2, 5, world);
 }
 
 // An Update of an empty log, and two insertions.
-fn first_entries(world: &mut [u8], keys: &[u8]) {
-    call::update(1, world, keys);
-    call::write(1, b"\x01bisque", world, keys);
-    call::write(2, b"\x01raku", world, keys);
+fn first_entries(world: &mut [u8]) {
+    call::update(1, world);
+    call::write(1, b"\x01bisque", world);
+    call::write(2, b"\x01raku", world);
 }
 
 // A strike of position 2, a firing, and an insertion.
-fn later_entries(world: &mut [u8], keys: &[u8]) {
-    call::write(1, b"\x02\x00\x00\x00\x02", world, keys);
-    call::write(2, &schedule(), world, keys);
-    call::write(1, b"\x01salt", world, keys);
+fn later_entries(world: &mut [u8]) {
+    call::write(1, b"\x02\x00\x00\x00\x02", world);
+    call::write(2, &schedule(), world);
+    call::write(1, b"\x01salt", world);
 }
 
 // A firing of two segments: 100 degrees an hour to 600, held for 15 minutes; then 150 an hour down to 50.

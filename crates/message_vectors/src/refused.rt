@@ -12,24 +12,24 @@ use sha256::bytes;
 use tree::message;
 
 // All requests, one after the other.
-pub fn requests(world: &mut [u8], keys: &[u8]) {
+pub fn requests(world: &mut [u8]) {
     let mut room = io::buffer();
     let n = file::read(&mut room);
-    rows(bytes::front(&room, n), world, keys);
+    rows(bytes::front(&room, n), world);
 }
 
-fn rows(text: &[u8], world: &mut [u8], keys: &[u8]) {
+fn rows(text: &[u8], world: &mut [u8]) {
     let mut at: usize = 0;
     while at < text.len() {
         let rest = bytes::from(text, at);
         let n = lines::find(rest, b'\n');
-        row(bytes::front(rest, n), world, keys);
+        row(bytes::front(rest, n), world);
         at += n + 1;
     }
 }
 
 // Prints the name of a line, and sends its request to a server.
-fn row(text: &[u8], world: &mut [u8], keys: &[u8]) {
+fn row(text: &[u8], world: &mut [u8]) {
     let name = bytes::front(text, lines::find(text, b':'));
     let rest = bytes::from(text, name.len() + 2);
     let numbers = bytes::front(rest, lines::find(rest, b'='));
@@ -40,12 +40,11 @@ fn row(text: &[u8], world: &mut [u8], keys: &[u8]) {
         line::numbers(numbers),
         bytes::from(rest, numbers.len() + 1),
         world,
-        keys,
     );
 }
 
 // Sends the request of a line on as many bytes of the server's place as it says.
-fn send(f: [u32; 16], text: &[u8], world: &mut [u8], keys: &[u8]) {
+fn send(f: [u32; 16], text: &[u8], world: &mut [u8]) {
     let server = (f[0] % 256) as u8;
     let mut space = [0u8; 2566];
     let mut answer = [0u8; 2552];
@@ -57,7 +56,7 @@ fn send(f: [u32; 16], text: &[u8], world: &mut [u8], keys: &[u8]) {
         request,
     );
     let whole = bytes::front(request, n - line::at_most(f[8], n));
-    call::ask(server, room(f[9]), whole, world, keys, &mut answer);
+    call::ask(server, room(f[9]), whole, world, &mut answer);
 }
 
 // How many bytes of a place are lent, where 0 stands for all.

@@ -1,5 +1,8 @@
-// All places in one slice of 65,536 bytes: those of users 1 and 2, 16,384 bytes each, then those of servers 1 to 4, 8,192 each.
+// All places and keys in one slice: the places of users 1 and 2, 16,384 bytes each, then those of servers 1 to 4, 8,192 each, then the
+// users' keys.
+ghost use mathlib.Core.Path.{_≡_};
 ghost use Prim.Native.Nat.{_≤_};
+ghost use lib.ListN.{length};
 use crate::hex;
 use exchange::server_place;
 use programs::key;
@@ -11,16 +14,23 @@ pub const SERVERS: u8 = 4;
 // How many bytes a server's place has; its store takes all behind the first 48.
 pub const PLACE: usize = 8192;
 
-// Where the place of user 1 or 2 begins.
-pub fn user_at(own: u8) -> usize
-    ensures { λ r. ⌜ r ≤ 32768 ⌝ }
+const KEYS: usize = 65536;
+
+// The memory of all places and keys, zero. The `ensures` gives only the length, so that no proof computes with the list.
+pub fn memory() -> [u8; 265688]
+    ensures { λ r. ⌜ 265688 ≡ length r ⌝ }
 {
-    16384 * key::before(own)
+    [0; 265688]
 }
 
-// The place of a user.
-pub fn user(own: u8, world: &[u8]) -> &[u8] {
-    bytes::from(world, user_at(own))
+// Lays the keys of users 1 and 2.
+pub fn lay_keys(world: &mut [u8]) {
+    bytes::put(world, KEYS, &key::of_two());
+}
+
+// The users' keys: the user list, and behind it what signs.
+pub fn keys(world: &[u8]) -> &[u8] {
+    bytes::from(world, KEYS)
 }
 
 // Where the place of server 1, 2, 3 or 4 begins.
@@ -61,8 +71,7 @@ pub fn print_servers(world: &[u8]) {
 }
 
 fn print_end(server: u8, world: &[u8]) {
-    print::number(b"\nserver ", server as usize);
-    print::text(b"\n");
+    print::filled(b"\nserver #\n", &[server as u32]);
     print_server(server, world);
     hex::line(b"hash ", &sha256::hash(stored_from(server, 0, world)));
 }

@@ -15,6 +15,10 @@ before a = (a + 2) % 3
 unfoldable pub treeAt : ℕ → ℕ
 treeAt a = 3640 + 65504 * before a
 
+-- Where the place of user a stands, where places of 16,384 bytes begin a slice.
+unfoldable pub placeAt : ℕ → ℕ
+placeAt a = 16384 * before a
+
 -- The key of user a: its seed is the number 32 times, its identifier the number 16 times.
 unfoldable pub treeOf : ℕ → List ℕ
 treeOf a = generated LMOTS_SHA256_N32_W4 LMS_SHA256_M32_H10 (replicate 16 a) (replicate 32 a) (zeros 65504)

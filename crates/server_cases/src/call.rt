@@ -61,18 +61,26 @@ fn lent(s: [u32; 12], keys: &[u8], place: &mut [u8], request: &[u8], answer: &mu
 
 // What a call gave, and the place and the answer buffer that it left, to the line's end.
 fn report(out: Served, place: &[u8], answer: &[u8]) {
-    let level = bytes::byte_at(place, server_place::LEVEL);
-    let author = bytes::u16_at(place, server_place::AUTHOR);
-    let digest = digest::piece(bytes::from(place, server_place::DIGEST), 0);
-    let store = sha256::hash(bytes::from(place, server_place::STORE));
     print::number(b": code ", out.code as usize);
-    print::number(b" head ", bytes::u32_at(place, 0) as usize);
-    print::number(b" ", level as usize);
-    print::number(b" ", author as usize);
-    print::figures(b" ", digest);
+    report_head(place);
     print::number(b" used ", out.used as usize);
     print::number(b" answered ", out.answer as usize);
-    print::figures(b" store ", store);
+    print::figures(
+        b" store ",
+        sha256::hash(bytes::from(place, server_place::STORE)),
+    );
     print::figures(b" answer ", sha256::hash(answer));
     print::text(b"\n");
+}
+
+// A head: position, level, author and digest.
+fn report_head(place: &[u8]) {
+    let level = bytes::byte_at(place, server_place::LEVEL);
+    let author = bytes::u16_at(place, server_place::AUTHOR);
+    let position = bytes::u32_at(place, 0);
+    print::filled(b" head # # # ", &[position, level as u32, author as u32]);
+    print::figures(
+        b"",
+        digest::piece(bytes::from(place, server_place::DIGEST), 0),
+    );
 }

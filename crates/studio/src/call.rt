@@ -5,6 +5,7 @@ use crate::world;
 use exchange::server_place;
 use exchange::user_place;
 use exchange::user_place::Settings;
+use programs::place;
 use sha256::bytes;
 
 // What a step of a kind is made with: three users are listed.
@@ -21,20 +22,18 @@ pub fn settings(g: Group, own: u8, kind: u8, number: u32) -> Settings {
     }
 }
 
-// One step of a user.
-fn step(s: Settings, input: &[u8], world: &mut [u8], keys: &[u8]) {
-    let at = world::user_at((s.own % 256) as u8);
-    if world.len() < at + 16384 {
-        return;
-    }
-    user_place::step(s, keys, input, &mut world[at..at + 16384]);
+// One step of a user, on a copy of its place.
+fn step(s: Settings, input: &[u8], world: &mut [u8]) {
+    let at = place::at((s.own % 256) as u8);
+    let mut place = [0u8; 16384];
+    user_place::load(world, at, &mut place);
+    user_place::step(s, world::keys(world), input, &mut place);
+    bytes::put(world, at, &place);
 }
 
 // Where the place begins that a user's request to a server goes to: the second copy's for an even user of a forked log, unless the server
 // follows the rules.
-fn server_at(g: Group, own: u8, server: u8) -> usize
-    ensures { λ r. ⌜ r ≤ 2097152 ⌝ }
-{
+fn server_at(g: Group, own: u8, server: u8) -> usize {
     let at = 65536 * ((server as usize + 15) % 16 + 1);
     if !g.forked {
         return at;
@@ -48,70 +47,61 @@ fn server_at(g: Group, own: u8, server: u8) -> usize
     at + 1048576
 }
 
-// The answer of the server that a user asks, in the answer buffer; its length is handed back.
-fn ask(g: Group, own: u8, world: &mut [u8], keys: &[u8], answer: &mut [u8]) -> usize {
-    let mut request = [0u8; 2566];
-    let place = world::user(own, world);
-    let server = bytes::byte_at(place, user_place::SERVER);
-    let asked = user_place::request_of(place);
-    let n = asked.len();
-    bytes::put(&mut request, 0, asked);
+// The answer of the server that a user asks, in the answer buffer; its length is handed back. The server works on a copy of its place.
+fn ask(g: Group, own: u8, world: &mut [u8], answer: &mut [u8]) -> usize {
+    let user = place::of(own, world);
+    let server = bytes::byte_at(user, user_place::SERVER);
     let at = server_at(g, own, server);
-    if world.len() < at + 65536 {
-        return 0;
-    }
+    let mut place = io::large_buffer();
+    user_place::load(world, at, &mut place);
     let out = server_place::serve(
         g.servers as u32,
         server as u32,
-        bytes::front(keys, 168),
-        &mut world[at..at + 65536],
-        bytes::front(&request, n),
+        bytes::front(world::keys(world), 168),
+        &mut place,
+        user_place::request_of(user),
         answer,
     );
+    bytes::put(world, at, &place);
     out.answer as usize
 }
 
 // One answer of the server that a user asks, taken in.
-fn turn(g: Group, own: u8, world: &mut [u8], keys: &[u8]) {
+fn turn(g: Group, own: u8, world: &mut [u8]) {
     let mut answer = [0u8; 2552];
-    let n = ask(g, own, world, keys, &mut answer);
-    step(
-        settings(g, own, 0, 0),
-        bytes::front(&answer, n),
-        world,
-        keys,
-    );
+    let n = ask(g, own, world, &mut answer);
+    step(settings(g, own, 0, 0), bytes::front(&answer, n), world);
 }
 
 // Takes in at most this many answers, until the call ends, and answers how many they were, a refused one too.
-fn answers(g: Group, own: u8, most: u32, world: &mut [u8], keys: &[u8]) -> usize {
+fn answers(g: Group, own: u8, most: u32, world: &mut [u8]) -> u32 {
     let mut taken: u32 = 0;
     while taken < most {
-        if user_place::ended(world::user(own, world)) {
-            return taken as usize;
+        if user_place::ended(place::of(own, world)) {
+            return taken;
         }
-        turn(g, own, world, keys);
+        turn(g, own, world);
         taken += 1;
     }
-    taken as usize
+    taken
 }
 
 // An Update, to its end, and how many answers it took in. No call takes more than 99.
-pub fn update(g: Group, own: u8, world: &mut [u8], keys: &[u8]) -> usize {
-    step(settings(g, own, 1, 0), b"", world, keys);
-    answers(g, own, 99, world, keys)
+pub fn update(g: Group, own: u8, world: &mut [u8]) -> u32 {
+    step(settings(g, own, 1, 0), b"", world);
+    answers(g, own, 99, world)
 }
 
 // A Write of an entry, or of the open one that it resumes, for at most `most` answers. Its randomizer is the own number 32 times.
-pub fn write(g: Group, own: u8, entry: &[u8], most: u32, world: &mut [u8], keys: &[u8]) -> usize {
-    step(settings(g, own, 2, own as u32), entry, world, keys);
-    answers(g, own, most, world, keys)
+pub fn write(g: Group, own: u8, entry: &[u8], most: u32, world: &mut [u8]) -> u32 {
+    step(settings(g, own, 2, own as u32), entry, world);
+    answers(g, own, most, world)
 }
 
 // A Read of a position, to its end. The entry is in the place's entry buffer where the code is 0.
-pub fn read(g: Group, own: u8, position: u32, world: &mut [u8], keys: &[u8]) -> usize {
-    step(settings(g, own, 3, position), b"", world, keys);
-    answers(g, own, 99, world, keys)
+pub fn read(g: Group, own: u8, position: u32, world: &mut [u8]) -> u32 {
+    step(settings(g, own, 3, position), b"", world);
+    answers(g, own, 99, world)
 }
 
 // The lesser of two numbers.

@@ -6,6 +6,7 @@ use crate::group::Group;
 use crate::report;
 use crate::world;
 use exchange::user_place;
+use programs::place;
 use programs::print;
 use sha256::bytes;
 
@@ -27,12 +28,12 @@ pub fn begin(g: Group, honest: u32, world: &mut [u8]) -> Group {
 }
 
 // What is to be said after a user's Update or Write on a forked log.
-pub fn after(g: Group, own: u8, open_before: bool, world: &mut [u8], keys: &[u8]) {
+pub fn after(g: Group, own: u8, open_before: bool, world: &mut [u8]) {
     let operation = report::next(world::version(own, world));
     notice(g, own, operation, open_before, world);
     if g.forked {
-        compare(g, own, own % 3 + 1, world, keys);
-        compare(g, own, (own % 3 + 1) % 3 + 1, world, keys);
+        compare(g, own, own % 3 + 1, world);
+        compare(g, own, (own % 3 + 1) % 3 + 1, world);
     }
 }
 
@@ -41,7 +42,7 @@ pub fn notice(g: Group, own: u8, operation: u32, open_before: bool, world: &[u8]
     if !g.forked {
         return;
     }
-    let place = world::user(own, world);
+    let place = place::of(own, world);
     let code = bytes::byte_at(place, user_place::CODE);
     if !shows(code, bytes::byte_at(place, user_place::REFUSAL)) {
         return;
@@ -70,24 +71,24 @@ fn shows(code: u8, refusal: u8) -> bool {
 }
 
 // Compares the views of two users: says where their reads differ first, if they do.
-fn compare(g: Group, a: u8, b: u8, world: &mut [u8], keys: &[u8]) {
+fn compare(g: Group, a: u8, b: u8, world: &mut [u8]) {
     let shorter = call::lesser(world::version(a, world), world::version(b, world));
-    let d = first_difference(g, a, b, shorter, world, keys);
+    let d = first_difference(g, a, b, shorter, world);
     if d != 0 {
-        report::difference(g, a, b, d, (shorter - d) as usize + 1);
+        report::difference(g, a, b, d, report::next(shorter - d));
     }
 }
 
 // The first position up to `shorter` that two users read differently; 0 where there is none.
-fn first_difference(g: Group, a: u8, b: u8, shorter: u32, world: &mut [u8], keys: &[u8]) -> u32
+fn first_difference(g: Group, a: u8, b: u8, shorter: u32, world: &mut [u8]) -> u32
     ensures { λ r. ⌜ r ≤ shorter ⌝ }
 {
     let mut p: u32 = 0;
     while p < shorter {
         p += 1;
-        call::read(g, a, p, world, keys);
-        call::read(g, b, p, world, keys);
-        if differ(world::user(a, world), world::user(b, world)) {
+        call::read(g, a, p, world);
+        call::read(g, b, p, world);
+        if differ(place::of(a, world), place::of(b, world)) {
             return p;
         }
     }

@@ -4,18 +4,14 @@
 // who notices it.
 mod board;
 mod call;
-mod curve;
 mod fork;
 mod group;
-mod kiln;
 mod report;
 mod run;
-mod week;
 mod world;
 
 use group::Group;
 use libc::STDIN_FILENO;
-use programs::key;
 use sha256::bytes;
 
 fn main() {
@@ -26,18 +22,14 @@ fn main() {
         report::too_long();
         return;
     }
-    let mut memory = key::memory();
-    let keys: &mut [u8] = &mut memory;
-    key::make(1, keys);
-    key::make(2, keys);
-    key::make(3, keys);
-    lines_of(text, keys);
+    lines_of(text);
 }
 
 // Runs the lines one after the other, on four servers until the script says otherwise.
-fn lines_of(text: &[u8], keys: &[u8]) {
-    let mut places = world::zeros();
-    let world: &mut [u8] = &mut places;
+fn lines_of(text: &[u8]) {
+    let mut memory = world::zeros();
+    let world: &mut [u8] = &mut memory;
+    world::make_keys(world);
     let mut group = group::fresh(4);
     let mut number: usize = 0;
     let mut at = 0;
@@ -45,7 +37,7 @@ fn lines_of(text: &[u8], keys: &[u8]) {
         let rest = bytes::from(text, at);
         let line = bytes::front(rest, lines::line_length(rest));
         number += 1;
-        group = run::line(line, number, group, world, keys);
+        group = run::line(line, number, group, world);
         at += lines::find(rest, b'\n') + 1;
     }
 }

@@ -1,13 +1,15 @@
 // What is printed.
 use crate::group::Group;
-use crate::kiln;
 use c_layout::using::SettledAnswer;
 use exchange::user_place;
 use firing::entry;
+use firing_text::kiln;
+use firing_text::week;
 use programs::print;
 use programs::sentence;
 use script::Command;
 use script::Fault;
+use script::Word;
 use sha256::bytes;
 use tree::label;
 
@@ -31,22 +33,32 @@ pub fn fault(at: usize, c: Command) -> bool {
         Fault::Nothing => {
             return false;
         }
-        Fault::UnknownWord => said(at, b"no such command"),
         Fault::Number(which, least, most) => range(at, which, least, most),
-        Fault::TextLength => said(at, b"the text is missing or longer than 1023 bytes"),
-        Fault::Rate => said(at, b"a rate is missing or not in -32768 .. 32767"),
-        Fault::Target => said(at, b"a target is missing or not in 0 .. 65535"),
-        Fault::Hold => said(at, b"a hold is missing or not in 0 .. 65535"),
-        Fault::Minute => said(at, b"a window's minute is no number or not in 0 .. 65535"),
-        Fault::TooMuch => said(at, b"the line has more than the command takes"),
+        Fault::UnknownWord => said(at, 1),
+        Fault::TextLength => said(at, 2),
+        Fault::Rate => said(at, 3),
+        Fault::Target => said(at, 4),
+        Fault::Hold => said(at, 5),
+        Fault::Minute => said(at, 6),
+        Fault::TooMuch => said(at, 7),
     }
     true
 }
 
-fn said(at: usize, what: &[u8]) {
+// What is wrong with a line where it is no number of its own.
+fn said(at: usize, what: u32) {
     print::number(b"  line ", at);
     print::text(b": ");
-    print::text(what);
+    print::said_of(
+        what,
+        b"1 no such command\n\
+        2 the text is missing or longer than 1023 bytes\n\
+        3 a rate is missing or not in -32768 .. 32767\n\
+        4 a target is missing or not in 0 .. 65535\n\
+        5 a hold is missing or not in 0 .. 65535\n\
+        6 a window's minute is no number or not in 0 .. 65535\n\
+        7 the line has more than the command takes",
+    );
     print::text(b"\n");
 }
 
@@ -54,40 +66,32 @@ fn said(at: usize, what: &[u8]) {
 fn range(at: usize, which: u8, least: u32, most: u32) {
     print::number(b"  line ", at);
     print::text(b": the ");
-    ordinal(which);
-    print::number(b" number is missing or not in ", least as usize);
-    print::number(b" .. ", most as usize);
-    print::text(b"\n");
-}
-
-fn ordinal(which: u8) {
-    match which {
-        1 => print::text(b"first"),
-        2 => print::text(b"second"),
-        3 => print::text(b"third"),
-        _ => print::text(b"fourth"),
-    }
+    print::said_of(which as u32, b"1 first\n2 second\n3 third\n4 fourth");
+    print::filled(b" number is missing or not in # .. #\n", &[least, most]);
 }
 
 // A new log.
 pub fn begun(g: Group) {
-    print::number(b"  a new log on ", g.servers as usize);
-    print::text(b" servers; users 1, 2 and 3 have version 0\n");
+    print::filled(
+        b"  a new log on # servers; users 1, 2 and 3 have version 0\n",
+        &[g.servers as u32],
+    );
 }
 
 // A user's call: its code and the server's, how many answers it took in, and what is kept.
-pub fn call(place: &[u8], answers: usize) {
+pub fn call(place: &[u8], answers: u32) {
     let code = bytes::byte_at(place, user_place::CODE);
     let refusal = bytes::byte_at(place, user_place::REFUSAL);
     print::number(b"  code ", code as usize);
     if code == 11 {
         print::number(b", server's code ", refusal as usize);
     }
-    print::number(b", answers ", answers);
-    print::number(b", version ", bytes::u32_at(place, 0) as usize);
+    let version = bytes::u32_at(place, 0);
     let number = bytes::u32_at(place, user_place::NUMBER);
-    print::number(b", next signature ", number as usize);
-    print::text(b"\n");
+    print::filled(
+        b", answers #, version #, next signature #\n",
+        &[answers, version, number],
+    );
     sentence::refusal(code, refusal);
 }
 
@@ -102,11 +106,8 @@ pub fn cut(place: &[u8]) {
         print::text(b" is lost; the write was not open yet, and nothing of it is kept\n");
         return;
     }
-    print::number(
-        b" is lost; the write is open at position ",
-        next(bytes::u32_at(place, 0)) as usize,
-    );
-    print::text(b"\n");
+    let position = next(bytes::u32_at(place, 0));
+    print::filled(b" is lost; the write is open at position #\n", &[position]);
 }
 
 // The position after v.
@@ -123,9 +124,7 @@ pub fn refused_read(position: u32, place: &[u8]) -> bool {
     if code == 0 {
         return false;
     }
-    print::number(b"  reading position ", position as usize);
-    print::number(b": code ", code as usize);
-    print::text(b"\n");
+    print::filled(b"  reading position #: code #\n", &[position, code as u32]);
     sentence::refusal(code, bytes::byte_at(place, user_place::REFUSAL));
     true
 }
@@ -143,9 +142,7 @@ pub fn entry(position: u32, place: &[u8]) {
 // Where a Read found an entry, and whose it is.
 pub fn found(position: u32, place: &[u8]) {
     let author = bytes::u16_at(place, user_place::AUTHOR);
-    print::number(b"  position ", position as usize);
-    print::number(b" by user ", author as usize);
-    print::text(b": ");
+    print::filled(b"  position # by user #: ", &[position, author as u32]);
 }
 
 // What an entry holds: a schedule in a few words, what it strikes, or its text.
@@ -162,76 +159,113 @@ fn contents(entry: &[u8]) {
     }
 }
 
-// Above a board.
-pub fn board(own: u8, n: usize) {
-    print::number(b"  the board of user ", own as usize);
-    print::number(b" after ", n);
-    print::text(b" entries\n");
+// What a command asks of the entry that a Read found, where it did not end with a refusal: the report from 20, or from a warm kiln, or when
+// the firing may begin within the windows that a text lists.
+pub fn firing(c: Command, text: &[u8], place: &[u8]) {
+    if bytes::byte_at(place, user_place::CODE) != 0 {
+        return;
+    }
+    found(c.second, place);
+    let entry = user_place::entry_of(place);
+    let word = c.word;
+    match word {
+        Word::Warm => kiln::print_totals(entry, c.third, c.fourth),
+        Word::Begin => week::print_start(entry, c.third, text),
+        _ => kiln::print_firing(entry),
+    }
 }
 
-// Whether the operation is settled that a user has read. Only an own one is.
+// Above a board.
+pub fn board(own: u8, entries: u32) {
+    print::filled(
+        b"  the board of user # after # entries\n",
+        &[own as u32, entries],
+    );
+}
+
+// Whether the operation is settled that a user has read.
 pub fn settled(g: Group, own: u8, position: u32, s: SettledAnswer, place: &[u8]) {
-    print::number(b"  code ", s.code as usize);
-    print::number(b", version ", bytes::u32_at(place, 0) as usize);
-    wait(b", ", g, position);
-    print::text(b"\n");
+    let version = bytes::u32_at(place, 0);
+    let author = bytes::u16_at(place, user_place::AUTHOR);
+    print::filled(
+        b"  code #, version #, Q(#, #) = #\n",
+        &[
+            s.code,
+            version,
+            position,
+            g.servers as u32,
+            wait(g, position),
+        ],
+    );
     if s.code != 0 {
         sentence::refusal((s.code % 256) as u8, 0);
         return;
     }
-    let author = bytes::u16_at(place, user_place::AUTHOR);
-    print::number(b"  operation ", position as usize);
-    print::number(b" by user ", author as usize);
-    if author != own as u16 {
-        print::text(b" is not this user's own\n");
-        return;
-    }
-    if s.settled == 1 {
-        print::text(b" is settled\n");
-        return;
-    }
-    print::text(b" is not settled yet\n");
+    print::filled(b"  operation # by user # is ", &[position, author as u32]);
+    standing(author == own as u16, s.settled == 1);
 }
 
-// Q of a position, after what comes before it.
-fn wait(before: &[u8], g: Group, position: u32) {
-    print::text(before);
-    print::number(b"Q(", position as usize);
-    print::number(b", ", g.servers as usize);
-    print::number(b") = ", label::wait(position, g.servers) as usize);
+// Whether an operation that was read is settled. Only an own one is.
+fn standing(is_own: bool, is_settled: bool) {
+    if !is_own {
+        print::text(b"not this user's own\n");
+    } else if is_settled {
+        print::text(b"settled\n");
+    } else {
+        print::text(b"not settled yet\n");
+    }
+}
+
+// Q of a position.
+fn wait(g: Group, position: u32) -> u32 {
+    label::wait(position, g.servers) as u32
 }
 
 // A fork that begins.
 pub fn forked(g: Group) {
-    print::number(b"  every server but ", g.honest as usize);
-    print::text(b" keeps two copies from now on: one for users 1 and 3, one for user 2\n");
-    print::number(b"  positions up to ", g.common as usize);
-    print::number(
-        b" are in both; the first that can differ is ",
-        next(g.common) as usize,
+    let first = next(g.common);
+    print::filled(
+        b"  every server but # keeps two copies from now on: one for users 1 and 3, one for user 2\n  \
+        positions up to # are in both; the first that can differ is #, and Q(#, #) = #\n",
+        &[
+            g.honest as u32,
+            g.common,
+            first,
+            first,
+            g.servers as u32,
+            wait(g, first),
+        ],
     );
-    wait(b", and ", g, next(g.common));
-    print::text(b"\n");
 }
 
 // A user that a refusal shows the fork.
 pub fn noticed(g: Group, own: u8, operation: u32) {
-    print::number(b"  fork at position ", next(g.common) as usize);
-    print::number(b": user ", own as usize);
-    print::number(b" notices it at operation ", operation as usize);
-    wait(b"; ", g, next(g.common));
-    print::text(b"\n");
+    let first = next(g.common);
+    print::filled(
+        b"  fork at position #: user # notices it at operation #; Q(#, #) = #\n",
+        &[
+            first,
+            own as u32,
+            operation,
+            first,
+            g.servers as u32,
+            wait(g, first),
+        ],
+    );
 }
 
 // Views that differ from position d on, with so many operations from there to the end of the shorter one.
-pub fn difference(g: Group, a: u8, b: u8, d: u32, operations: usize) {
-    print::number(b"  users ", a as usize);
-    print::number(b" and ", b as usize);
-    print::number(b" read position ", d as usize);
-    print::number(
-        b" differently; operations from there to the end of the shorter view: ",
-        operations,
+pub fn difference(g: Group, a: u8, b: u8, d: u32, operations: u32) {
+    print::filled(
+        b"  users # and # read position # differently; operations from there to the end of the shorter view: #, at most Q(#, #) = #\n",
+        &[
+            a as u32,
+            b as u32,
+            d,
+            operations,
+            d,
+            g.servers as u32,
+            wait(g, d),
+        ],
     );
-    wait(b", at most ", g, d);
-    print::text(b"\n");
 }

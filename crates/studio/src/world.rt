@@ -1,39 +1,41 @@
-// All places in one slice: in the first 65,536 bytes those of users 1, 2 and 3, 16,384 bytes each; then 65,536 bytes for each copy of each
-// server, first the servers 1 to 16, then their second copies.
+// All places and keys in one slice: in the first 65,536 bytes the places of users 1, 2 and 3, 16,384 bytes each; then 65,536 bytes for each
+// copy of each server, first the servers 1 to 16, then their second copies; then the users' keys.
 ghost use mathlib.Core.Path.{_≡_};
-ghost use Prim.Native.Nat.{_≤_};
 ghost use lib.ListN.{length};
 use exchange::user_place;
 use programs::key;
+use programs::place;
 use sha256::bytes;
 
-// The memory of all places, zero. The `ensures` gives only the length, so that no proof computes with the list.
-pub fn zeros() -> [u8; 2162688]
-    ensures { λ r. ⌜ 2162688 ≡ length r ⌝ }
+const KEYS: usize = 2162688;
+
+// The memory of all places and keys, zero. The `ensures` gives only the length, so that no proof computes with the list.
+pub fn zeros() -> [u8; 2362840]
+    ensures { λ r. ⌜ 2362840 ≡ length r ⌝ }
 {
-    [0; 2162688]
+    [0; 2362840]
 }
 
-// Where the place of a user begins.
-pub fn user_at(own: u8) -> usize
-    ensures { λ r. ⌜ r ≤ 32768 ⌝ }
-{
-    16384 * key::before(own)
+// Makes the keys of the three users.
+pub fn make_keys(world: &mut [u8]) {
+    let mut keys = key::of_two();
+    key::make(3, &mut keys);
+    bytes::put(world, KEYS, &keys);
 }
 
-// The place of a user.
-pub fn user(own: u8, world: &[u8]) -> &[u8] {
-    bytes::from(world, user_at(own))
+// The users' keys.
+pub fn keys(world: &[u8]) -> &[u8] {
+    bytes::from(world, KEYS)
 }
 
 // How many operations a user's view has.
 pub fn version(own: u8, world: &[u8]) -> u32 {
-    bytes::u32_at(user(own, world), 0)
+    bytes::u32_at(place::of(own, world), 0)
 }
 
 // Whether a user's write is open.
 pub fn is_open(own: u8, world: &[u8]) -> bool {
-    bytes::byte_at(user(own, world), user_place::OPENED) == 1
+    bytes::byte_at(place::of(own, world), user_place::OPENED) == 1
 }
 
 // Whether any user's write is open.
@@ -72,7 +74,7 @@ pub fn begin(world: &mut [u8]) {
 
 // The number of a user's next signature is kept, since a key makes each signature once.
 fn begin_user(own: u8, world: &mut [u8]) {
-    let at = user_at(own);
+    let at = place::at(own);
     bytes::put(world, at, &[0u8; 36]);
     bytes::put(world, at + user_place::OPENED, &[0u8; 2]);
 }

@@ -5,29 +5,27 @@ mod answer;
 mod report;
 mod row;
 mod step;
+mod work;
 
 use programs::file;
-use programs::key;
 use sha256::bytes;
 
 fn main() {
-    let keys = key::of_two();
     let mut text = io::large_buffer();
     let n = file::read(&mut text);
-    rows(bytes::front(&text, n), &keys);
+    rows(bytes::front(&text, n));
 }
 
-// All lines, one after the other: 16 places of users, and four servers that begin with nothing reserved and nothing stored.
-fn rows(text: &[u8], keys: &[u8]) {
-    let mut world = [0u8; 163840];
-    let mut group = io::large_buffer();
-    let places: &mut [u8] = &mut world;
-    let servers: &mut [u8] = &mut group;
+// All lines, one after the other.
+fn rows(text: &[u8]) {
+    let mut memory = work::memory();
+    let world: &mut [u8] = &mut memory;
+    work::lay_keys(world);
     let mut at: usize = 0;
     while at < text.len() {
         let rest = bytes::from(text, at);
         let n = lines::find(rest, b'\n');
-        row::run(bytes::front(rest, n), places, servers, keys);
+        row::run(bytes::front(rest, n), world);
         at += n + 1;
     }
 }

@@ -1,13 +1,14 @@
 // What is printed of a place after a step.
 use crate::step;
+use crate::work;
 use exchange::user_place;
 use programs::print;
 use sha256::bytes;
 use tree::digest;
 
-// A byte of the place, after what it is.
-fn byte(what: &[u8], place: &[u8], at: usize) {
-    print::number(what, bytes::byte_at(place, at) as usize);
+// A byte of the place.
+fn byte(place: &[u8], at: usize) -> u32 {
+    bytes::byte_at(place, at) as u32
 }
 
 // The hash of n bytes of the place, after what they are.
@@ -17,16 +18,18 @@ fn hash(what: &[u8], place: &[u8], at: usize, n: usize) {
 
 // The code of the last step and the server's, whether its call has ended, and what is kept but for the digest.
 pub fn step(place: &[u8]) {
-    byte(b": code ", place, user_place::CODE);
-    byte(b" ", place, user_place::REFUSAL);
-    byte(b" ended ", place, user_place::ENDED);
-    print::number(b" version ", bytes::u32_at(place, 0) as usize);
-    print::number(
-        b" number ",
-        bytes::u32_at(place, user_place::NUMBER) as usize,
+    print::filled(
+        b": code # # ended # version # number # opened # signed #",
+        &[
+            byte(place, user_place::CODE),
+            byte(place, user_place::REFUSAL),
+            byte(place, user_place::ENDED),
+            bytes::u32_at(place, 0),
+            bytes::u32_at(place, user_place::NUMBER),
+            byte(place, user_place::OPENED),
+            byte(place, user_place::SIGNED),
+        ],
     );
-    byte(b" opened ", place, user_place::OPENED);
-    byte(b" signed ", place, user_place::SIGNED);
 }
 
 // The last step, the kept digest, and the SHA-256 of the path, the signature, the call, the call's memory (hashes and held entry), the
@@ -48,17 +51,15 @@ pub fn state(place: &[u8]) {
 
 // The author and the length of the entry that a Read found.
 fn found(place: &[u8]) {
-    print::number(
-        b" found ",
-        bytes::u16_at(place, user_place::AUTHOR) as usize,
-    );
-    print::number(b" ", bytes::u16_at(place, user_place::LENGTH) as usize);
+    let author = bytes::u16_at(place, user_place::AUTHOR);
+    let length = bytes::u16_at(place, user_place::LENGTH);
+    print::filled(b" found # #", &[author as u32, length as u32]);
 }
 
 // Whether the position that a line says is settled.
-pub fn settled(f: [u32; 16], keys: &[u8], place: &mut [u8]) {
-    let s = step::prepare(f, 0, f[3], place);
-    let r = user_place::settled(s, keys, place);
+pub fn settled(f: [u32; 16], work: &mut [u8]) {
+    let s = step::prepare(f, 0, f[3], work);
+    let r = user_place::settled(s, work::keys(work), work);
     print::number(b": code ", r.code as usize);
     if r.settled == 1 {
         print::text(b" settled");

@@ -1,4 +1,5 @@
 // One step of a user on its place, with the settings of a line.
+use crate::work;
 use exchange::user_place;
 use exchange::user_place::Settings;
 use programs::line;
@@ -47,8 +48,11 @@ pub fn prepare(f: [u32; 16], kind: u8, number: u32, place: &mut [u8]) -> Setting
     }
 }
 
-// The start of an Update, of a Write of an entry or of a Read, or an answer taken in.
-pub fn step(f: [u32; 16], kind: u8, number: u32, input: &[u8], keys: &[u8], place: &mut [u8]) {
-    let s = prepare(f, kind, number, place);
-    user_place::step(s, keys, input, place);
+// The start of an Update, of a Write of an entry or of a Read, or an answer taken in, on a copy of the place.
+pub fn step(f: [u32; 16], kind: u8, number: u32, input: &[u8], work: &mut [u8]) {
+    let s = prepare(f, kind, number, work);
+    let mut place = [0u8; 10240];
+    user_place::load(work, 0, &mut place);
+    user_place::step(s, work::keys(work), input, &mut place);
+    bytes::put(work, 0, &place);
 }

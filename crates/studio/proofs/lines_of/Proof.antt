@@ -6,16 +6,19 @@ use Rattle.studio.proofs.lines_of.Statement.{statement}
 use Rattle.studio.proofs.lines_of.Tie as tie
 
 abbrev Inv-loop : tie.InvT-loop
-Inv-loop text keys world₀ group₀ number₀ at₀ world group number at = number ≤ at
+Inv-loop text world₀ group₀ number₀ at₀ world group number at = number ≤ at
 
 abbrev μ-loop : tie.MeasureT-loop
-μ-loop text keys world₀ group₀ number₀ at₀ world group number at = length text - at
+μ-loop text world₀ group₀ number₀ at₀ world group number at = length text - at
 
 zeros-requires : tie.Need-zeros-requires Inv-loop μ-loop
 zeros-requires c κs = search needs
 
 slice-aggregate-world : tie.Need-slice-aggregate-world Inv-loop μ-loop
 slice-aggregate-world c = search needs
+
+make-keys-requires : tie.Need-make-keys-requires Inv-loop μ-loop
+make-keys-requires c κs = search needs
 
 fresh-requires : tie.Need-fresh-requires Inv-loop μ-loop
 fresh-requires c κs = search needs
@@ -64,6 +67,7 @@ lines-of-spec =
     μ-loop
     zeros-requires
     slice-aggregate-world
+    make-keys-requires
     fresh-requires
     loop-holds
     from-requires

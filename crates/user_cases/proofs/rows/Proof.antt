@@ -6,19 +6,19 @@ use Rattle.user_cases.proofs.rows.Statement.{statement}
 use Rattle.user_cases.proofs.rows.Tie as tie
 
 abbrev Inv-loop : tie.InvT-loop
-Inv-loop text keys places₀ servers₀ at₀ places servers at = 0 ≤ at
+Inv-loop text world₀ at₀ world at = 0 ≤ at
 
 abbrev μ-loop : tie.MeasureT-loop
-μ-loop text keys places₀ servers₀ at₀ places servers at = length text - at
+μ-loop text world₀ at₀ world at = length text - at
 
-large-buffer-requires : tie.Need-large-buffer-requires Inv-loop μ-loop
-large-buffer-requires c κs = search needs
+memory-requires : tie.Need-memory-requires Inv-loop μ-loop
+memory-requires c κs = search needs
 
-slice-aggregate-places : tie.Need-slice-aggregate-places Inv-loop μ-loop
-slice-aggregate-places c = search needs
+slice-aggregate-world : tie.Need-slice-aggregate-world Inv-loop μ-loop
+slice-aggregate-world c = search needs
 
-slice-aggregate-servers : tie.Need-slice-aggregate-servers Inv-loop μ-loop
-slice-aggregate-servers c = search needs
+lay-keys-requires : tie.Need-lay-keys-requires Inv-loop μ-loop
+lay-keys-requires c κs = search needs
 
 loop-holds : tie.Need-loop-holds Inv-loop μ-loop
 loop-holds c = search needs
@@ -56,9 +56,9 @@ rows-spec =
     (tie.spec
     Inv-loop
     μ-loop
-    large-buffer-requires
-    slice-aggregate-places
-    slice-aggregate-servers
+    memory-requires
+    slice-aggregate-world
+    lay-keys-requires
     loop-holds
     from-requires
     find-requires

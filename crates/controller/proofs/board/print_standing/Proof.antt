@@ -7,11 +7,10 @@ use Rattle.controller.proofs.board.print_standing.Statement.{statement}
 use Rattle.controller.proofs.board.print_standing.Tie as tie
 
 abbrev Inv-loop : tie.InvT-loop
-Inv-loop g file n users keys memory₀ links₀ standing k₀ memory links k =
-    (k ≤ n) × ((length memory ≡ length memory₀) × (length links ≡ length links₀))
+Inv-loop g file n keys memory₀ standing k₀ memory k = (k ≤ n) × (length memory ≡ length memory₀)
 
 abbrev μ-loop : tie.MeasureT-loop
-μ-loop g file n users keys memory₀ links₀ standing k₀ memory links k = n - k
+μ-loop g file n keys memory₀ standing k₀ memory k = n - k
 
 loop-holds : tie.Need-loop-holds Inv-loop μ-loop
 loop-holds c = search needs
@@ -34,9 +33,6 @@ print-marked-requires c κs = search needs
 same-length : tie.Need-same-length Inv-loop μ-loop
 same-length c = search needs
 
-same-length-2 : tie.Need-same-length-2 Inv-loop μ-loop
-same-length-2 c = search needs
-
 returns : tie.Need-returns Inv-loop μ-loop
 returns c = search needs
 
@@ -49,11 +45,8 @@ loop-less c = search needs
 loop-again : tie.Need-loop-again Inv-loop μ-loop
 loop-again c = search needs
 
-same-length-3 : tie.Need-same-length-3 Inv-loop μ-loop
-same-length-3 c = search needs
-
-same-length-4 : tie.Need-same-length-4 Inv-loop μ-loop
-same-length-4 c = search needs
+same-length-2 : tie.Need-same-length-2 Inv-loop μ-loop
+same-length-2 c = search needs
 
 returns-2 : tie.Need-returns-2 Inv-loop μ-loop
 returns-2 c = search needs
@@ -71,11 +64,9 @@ print-standing-spec =
     shared-slice-read-print-marked
     print-marked-requires
     same-length
-    same-length-2
     returns
     add-k
     loop-less
     loop-again
-    same-length-3
-    same-length-4
+    same-length-2
     returns-2)

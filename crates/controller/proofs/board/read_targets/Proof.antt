@@ -10,11 +10,11 @@ use Rattle.controller.proofs.board.read_targets.Statement.{statement}
 use Rattle.controller.proofs.board.read_targets.Tie as tie
 
 abbrev Inv-loop : tie.InvT-loop
-Inv-loop g file n users keys memory₀ links₀ targets₀ k₀ memory links targets k =
-    (k ≤ n) × ((length memory ≡ length memory₀) × ((length links ≡ length links₀) × (length targets ≡ length targets₀)))
+Inv-loop g file n keys memory₀ targets₀ k₀ memory targets k =
+    (k ≤ n) × ((length memory ≡ length memory₀) × (length targets ≡ length targets₀))
 
 abbrev μ-loop : tie.MeasureT-loop
-μ-loop g file n users keys memory₀ links₀ targets₀ k₀ memory links targets k = n - k
+μ-loop g file n keys memory₀ targets₀ k₀ memory targets k = n - k
 
 loop-holds : tie.Need-loop-holds Inv-loop μ-loop
 loop-holds c = search needs
@@ -34,9 +34,6 @@ same-length c = search needs
 same-length-2 : tie.Need-same-length-2 Inv-loop μ-loop
 same-length-2 c = search needs
 
-same-length-3 : tie.Need-same-length-3 Inv-loop μ-loop
-same-length-3 c = search needs
-
 returns : tie.Need-returns Inv-loop μ-loop
 returns c = search needs
 
@@ -54,17 +51,14 @@ loop-less c = search needs
 
 loop-again : tie.Need-loop-again Inv-loop μ-loop
 loop-again c =
-    let loop = c .before .before .before .before .before .before .before .before .loop in
-    (search needs, (search needs, (search needs, length-set {0} {A = ℕ} (loop .targets) _ _ ∙ loop .inv .1 .1 .1)))
+    let loop = c .before .before .before .before .before .before .loop in
+    (search needs, (search needs, length-set {0} {A = ℕ} (loop .targets) _ _ ∙ loop .inv .1 .1))
+
+same-length-3 : tie.Need-same-length-3 Inv-loop μ-loop
+same-length-3 c = search needs
 
 same-length-4 : tie.Need-same-length-4 Inv-loop μ-loop
 same-length-4 c = search needs
-
-same-length-5 : tie.Need-same-length-5 Inv-loop μ-loop
-same-length-5 c = search needs
-
-same-length-6 : tie.Need-same-length-6 Inv-loop μ-loop
-same-length-6 c = search needs
 
 returns-2 : tie.Need-returns-2 Inv-loop μ-loop
 returns-2 c = search needs
@@ -81,14 +75,12 @@ read-targets-spec =
     read-target-requires
     same-length
     same-length-2
-    same-length-3
     returns
     mul-targets
     slice-write-targets
     add-k
     loop-less
     loop-again
+    same-length-3
     same-length-4
-    same-length-5
-    same-length-6
     returns-2)

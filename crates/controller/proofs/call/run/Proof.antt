@@ -5,11 +5,10 @@ use Rattle.controller.proofs.call.run.Statement.{statement}
 use Rattle.controller.proofs.call.run.Tie as tie
 
 abbrev Inv-loop : tie.InvT-loop
-Inv-loop g file users keys input memory₀ links₀ asked₀ left₀ memory links asked left =
-    (length memory ≡ length memory₀) × (length links ≡ length links₀)
+Inv-loop g file keys input memory₀ asked₀ left₀ memory asked left = length memory ≡ length memory₀
 
 abbrev μ-loop : tie.MeasureT-loop
-μ-loop g file users keys input memory₀ links₀ asked₀ left₀ memory links asked left = left
+μ-loop g file keys input memory₀ asked₀ left₀ memory asked left = left
 
 run-requires : tie.Need-run-requires Inv-loop μ-loop
 run-requires c κs = search needs
@@ -44,17 +43,11 @@ ended-requires c κs = search needs
 same-length : tie.Need-same-length Inv-loop μ-loop
 same-length c = search needs
 
-same-length-2 : tie.Need-same-length-2 Inv-loop μ-loop
-same-length-2 c = search needs
-
 returns : tie.Need-returns Inv-loop μ-loop
 returns c = search needs
 
-same-length-3 : tie.Need-same-length-3 Inv-loop μ-loop
-same-length-3 c = search needs
-
-same-length-4 : tie.Need-same-length-4 Inv-loop μ-loop
-same-length-4 c = search needs
+same-length-2 : tie.Need-same-length-2 Inv-loop μ-loop
+same-length-2 c = search needs
 
 returns-2 : tie.Need-returns-2 Inv-loop μ-loop
 returns-2 c = search needs
@@ -76,8 +69,6 @@ run-spec =
     save-requires
     ended-requires
     same-length
-    same-length-2
     returns
-    same-length-3
-    same-length-4
+    same-length-2
     returns-2)

@@ -7,16 +7,16 @@ use Rattle.message_vectors.proofs.call.answers.Statement.{statement}
 use Rattle.message_vectors.proofs.call.answers.Tie as tie
 
 abbrev Inv-loop : tie.InvT-loop
-Inv-loop own world₀ keys taken₀ world taken = (taken ≤ 99) × (length world ≡ length world₀)
+Inv-loop own world₀ taken₀ world taken = (taken ≤ 99) × (length world ≡ length world₀)
 
 abbrev μ-loop : tie.MeasureT-loop
-μ-loop own world₀ keys taken₀ world taken = 99 - taken
+μ-loop own world₀ taken₀ world taken = 99 - taken
 
 loop-holds : tie.Need-loop-holds Inv-loop μ-loop
 loop-holds c = search needs
 
-user-requires : tie.Need-user-requires Inv-loop μ-loop
-user-requires c κs = search needs
+of-requires : tie.Need-of-requires Inv-loop μ-loop
+of-requires c κs = search needs
 
 ended-requires : tie.Need-ended-requires Inv-loop μ-loop
 ended-requires c κs = search needs
@@ -52,7 +52,7 @@ answers-spec =
     Inv-loop
     μ-loop
     loop-holds
-    user-requires
+    of-requires
     ended-requires
     same-length
     returns

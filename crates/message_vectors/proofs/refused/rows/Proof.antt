@@ -7,10 +7,10 @@ use Rattle.message_vectors.proofs.refused.rows.Statement.{statement}
 use Rattle.message_vectors.proofs.refused.rows.Tie as tie
 
 abbrev Inv-loop : tie.InvT-loop
-Inv-loop text world₀ keys at₀ world at = length world ≡ length world₀
+Inv-loop text world₀ at₀ world at = length world ≡ length world₀
 
 abbrev μ-loop : tie.MeasureT-loop
-μ-loop text world₀ keys at₀ world at = length text - at
+μ-loop text world₀ at₀ world at = length text - at
 
 loop-holds : tie.Need-loop-holds Inv-loop μ-loop
 loop-holds c = search needs

@@ -7,10 +7,10 @@ use Rattle.studio.proofs.board.read_targets.Statement.{statement}
 use Rattle.studio.proofs.board.read_targets.Tie as tie
 
 abbrev Inv-loop : tie.InvT-loop
-Inv-loop g own n world₀ keys targets₀ k₀ world targets k = (k ≤ n) × ((length world ≡ length world₀) × (length targets ≡ length targets₀))
+Inv-loop g own n world₀ targets₀ k₀ world targets k = (k ≤ n) × ((length world ≡ length world₀) × (length targets ≡ length targets₀))
 
 abbrev μ-loop : tie.MeasureT-loop
-μ-loop g own n world₀ keys targets₀ k₀ world targets k = n - k
+μ-loop g own n world₀ targets₀ k₀ world targets k = n - k
 
 loop-holds : tie.Need-loop-holds Inv-loop μ-loop
 loop-holds c = search needs
@@ -24,8 +24,8 @@ add-p c = search needs
 read-requires : tie.Need-read-requires Inv-loop μ-loop
 read-requires c κs = search needs
 
-user-requires : tie.Need-user-requires Inv-loop μ-loop
-user-requires c κs = search needs
+of-requires : tie.Need-of-requires Inv-loop μ-loop
+of-requires c κs = search needs
 
 refused-read-requires : tie.Need-refused-read-requires Inv-loop μ-loop
 refused-read-requires c κs = search needs
@@ -39,8 +39,8 @@ same-length-2 c = search needs
 returns : tie.Need-returns Inv-loop μ-loop
 returns c = search needs
 
-user-requires-2 : tie.Need-user-requires-2 Inv-loop μ-loop
-user-requires-2 c κs = search needs
+of-requires-2 : tie.Need-of-requires-2 Inv-loop μ-loop
+of-requires-2 c κs = search needs
 
 entry-of-requires : tie.Need-entry-of-requires Inv-loop μ-loop
 entry-of-requires c κs = search needs
@@ -84,12 +84,12 @@ read-targets-spec =
     cast-p
     add-p
     read-requires
-    user-requires
+    of-requires
     refused-read-requires
     same-length
     same-length-2
     returns
-    user-requires-2
+    of-requires-2
     entry-of-requires
     target-requires
     mul-targets

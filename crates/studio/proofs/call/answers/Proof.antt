@@ -1,28 +1,25 @@
 -- `answers` is safe and ends. The turns that are left fall.
-use borrow.Author.Needs.{needs}
 use mathlib.Core.Path.{_≡_}
 use Prim.Native.Nat.{_≤_, _-_}
 use lib.ListN.{length}
+use borrow.Author.Needs.{needs}
 use Rattle.studio.proofs.call.answers.Statement.{statement}
 use Rattle.studio.proofs.call.answers.Tie as tie
 
 abbrev Inv-loop : tie.InvT-loop
-Inv-loop g own most world₀ keys taken₀ world taken = (taken ≤ most) × (length world ≡ length world₀)
+Inv-loop g own most world₀ taken₀ world taken = (taken ≤ most) × (length world ≡ length world₀)
 
 abbrev μ-loop : tie.MeasureT-loop
-μ-loop g own most world₀ keys taken₀ world taken = most - taken
+μ-loop g own most world₀ taken₀ world taken = most - taken
 
 loop-holds : tie.Need-loop-holds Inv-loop μ-loop
 loop-holds c = search needs
 
-user-requires : tie.Need-user-requires Inv-loop μ-loop
-user-requires c κs = search needs
+of-requires : tie.Need-of-requires Inv-loop μ-loop
+of-requires c κs = search needs
 
 ended-requires : tie.Need-ended-requires Inv-loop μ-loop
 ended-requires c κs = search needs
-
-cast-result : tie.Need-cast-result Inv-loop μ-loop
-cast-result c = search needs
 
 same-length : tie.Need-same-length Inv-loop μ-loop
 same-length c = search needs
@@ -42,9 +39,6 @@ loop-less c = search needs
 loop-again : tie.Need-loop-again Inv-loop μ-loop
 loop-again c = search needs
 
-cast-result-2 : tie.Need-cast-result-2 Inv-loop μ-loop
-cast-result-2 c = search needs
-
 same-length-2 : tie.Need-same-length-2 Inv-loop μ-loop
 same-length-2 c = search needs
 
@@ -58,15 +52,13 @@ answers-spec =
     Inv-loop
     μ-loop
     loop-holds
-    user-requires
+    of-requires
     ended-requires
-    cast-result
     same-length
     returns
     turn-requires
     add-taken
     loop-less
     loop-again
-    cast-result-2
     same-length-2
     returns-2)

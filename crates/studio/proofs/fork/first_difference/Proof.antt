@@ -7,10 +7,10 @@ use Rattle.studio.proofs.fork.first_difference.Statement.{statement}
 use Rattle.studio.proofs.fork.first_difference.Tie as tie
 
 abbrev Inv-loop : tie.InvT-loop
-Inv-loop g a b shorter world₀ keys p₀ world p = (p ≤ shorter) × (length world ≡ length world₀)
+Inv-loop g a b shorter world₀ p₀ world p = (p ≤ shorter) × (length world ≡ length world₀)
 
 abbrev μ-loop : tie.MeasureT-loop
-μ-loop g a b shorter world₀ keys p₀ world p = shorter - p
+μ-loop g a b shorter world₀ p₀ world p = shorter - p
 
 loop-holds : tie.Need-loop-holds Inv-loop μ-loop
 loop-holds c = search needs
@@ -24,11 +24,11 @@ read-requires c κs = search needs
 read-requires-2 : tie.Need-read-requires-2 Inv-loop μ-loop
 read-requires-2 c κs = search needs
 
-user-requires : tie.Need-user-requires Inv-loop μ-loop
-user-requires c κs = search needs
+of-requires : tie.Need-of-requires Inv-loop μ-loop
+of-requires c κs = search needs
 
-user-requires-2 : tie.Need-user-requires-2 Inv-loop μ-loop
-user-requires-2 c κs = search needs
+of-requires-2 : tie.Need-of-requires-2 Inv-loop μ-loop
+of-requires-2 c κs = search needs
 
 differ-requires : tie.Need-differ-requires Inv-loop μ-loop
 differ-requires c κs = search needs
@@ -61,8 +61,8 @@ first-difference-spec =
     add-p
     read-requires
     read-requires-2
-    user-requires
-    user-requires-2
+    of-requires
+    of-requires-2
     differ-requires
     same-length
     returns

@@ -1,4 +1,4 @@
--- `answers` is safe and ends. The turns that are left fall; the lent places keep their lengths.
+-- `answers` is safe and ends. The turns that are left fall; the lent copies keep their length.
 use mathlib.Core.Path.{_≡_}
 use Prim.Native.Nat.{_≤_, _-_}
 use lib.ListN.{length}
@@ -7,11 +7,10 @@ use Rattle.user_cases.proofs.row.answers.Statement.{statement}
 use Rattle.user_cases.proofs.row.answers.Tie as tie
 
 abbrev Inv-loop : tie.InvT-loop
-Inv-loop f most place₀ servers₀ keys taken₀ place servers taken =
-    (taken ≤ most) × ((length place ≡ length place₀) × (length servers ≡ length servers₀))
+Inv-loop f most work₀ taken₀ work taken = (taken ≤ most) × (length work ≡ length work₀)
 
 abbrev μ-loop : tie.MeasureT-loop
-μ-loop f most place₀ servers₀ keys taken₀ place servers taken = most - taken
+μ-loop f most work₀ taken₀ work taken = most - taken
 
 loop-holds : tie.Need-loop-holds Inv-loop μ-loop
 loop-holds c = search needs
@@ -21,9 +20,6 @@ ended-requires c κs = search needs
 
 same-length : tie.Need-same-length Inv-loop μ-loop
 same-length c = search needs
-
-same-length-2 : tie.Need-same-length-2 Inv-loop μ-loop
-same-length-2 c = search needs
 
 returns : tie.Need-returns Inv-loop μ-loop
 returns c = search needs
@@ -40,11 +36,8 @@ loop-less c = search needs
 loop-again : tie.Need-loop-again Inv-loop μ-loop
 loop-again c = search needs
 
-same-length-3 : tie.Need-same-length-3 Inv-loop μ-loop
-same-length-3 c = search needs
-
-same-length-4 : tie.Need-same-length-4 Inv-loop μ-loop
-same-length-4 c = search needs
+same-length-2 : tie.Need-same-length-2 Inv-loop μ-loop
+same-length-2 c = search needs
 
 returns-2 : tie.Need-returns-2 Inv-loop μ-loop
 returns-2 c = search needs
@@ -58,12 +51,10 @@ answers-spec =
     loop-holds
     ended-requires
     same-length
-    same-length-2
     returns
     turn-requires
     add-taken
     loop-less
     loop-again
-    same-length-3
-    same-length-4
+    same-length-2
     returns-2)

@@ -1,0 +1,2 @@
+-- Laws of a schedule's text.
+pub mod Segments
