@@ -255,7 +255,8 @@ kozbrax_served kozbrax_server(uint32_t servers, uint32_t own, const uint8_t *log
    kept, KOZBRAX_KEPT (42) bytes, all zero for a new user:
      version (4 bytes at 0), digest (32 at 4), next signature number (4 at 36), opened (1 at 40), signed (1 at 41); the last two are 1 or 0
    path, KOZBRAX_PATH (672) bytes, and signature, KOZBRAX_SIGNATURE (2,508): of an open write
-   call, KOZBRAX_CALL (82) bytes; the bytes that a kind does not name keep their contents:
+   call, KOZBRAX_CALL (82) bytes, all zero before the first start, and where a caller drops a call without starting another: zero bytes take
+   no answer; the bytes that a kind does not name keep their contents:
      kind (1 at 0): 1 Update, 2 Write, 3 Read
      Update and Write: answers (1 at 1), greatest (4 at 2), least (4 at 6), position (4 at 10), digest (32 at 14)
      Write as well: opened (1 at 46), answers (1 at 47), randomizer (32 at 48), length (2 at 80)
