@@ -18,7 +18,8 @@ use Rattle.tree.specs.Cover.{piece}
 use Rattle.tree.proofs.Cases.{and-true}
 use Rattle.tree.proofs.Messages.{be-one, number-elements, three-parts}
 use Rattle.tree.proofs.Pieces.{piece-whole}
-use Rattle.tree.specs.Setup.{groupFits, firstCode, settings, settingsOf}
+use Rattle.tree.specs.Setup.{groupFits, firstCode, settings}
+use Rattle.tree.specs.Inner.{settingsOf}
 use Rattle.server.specs.declared.Head.{Head}
 use Rattle.server.specs.declared.Out.{Out}
 use Rattle.server.specs.Checks.{serverSetupChecks, serverSettingsFit}

@@ -9,7 +9,8 @@ use borrow.Author.Tests.{leb-true}
 use Rattle.tree.proofs.Cases.{cases-le, and-true, untrue}
 use Rattle.tree.proofs.Groups.{group-fits}
 use Rattle.tree.specs.declared.setup.Config.{Config}
-use Rattle.tree.specs.Setup.{Settings, settings, settingsOf, groupFits, userCount, listed, firstCode}
+use Rattle.tree.specs.Setup.{Settings, settings, groupFits, userCount, listed, firstCode}
+use Rattle.tree.specs.Inner.{settingsOf}
 use Rattle.user.specs.declared.call.Kept.{Kept}
 use Rattle.user.specs.Asking.{userSettingsFit}
 use Rattle.user.specs.Outcome.{State, Lent}

@@ -8,7 +8,8 @@ use lib.ListN.{length, getD}
 use borrow.Author.Tests.{eq-eqb, ne-eqb}
 use Rattle.sha256.specs.Bytes.{written}
 use Rattle.tree.specs.declared.setup.Config.{Config}
-use Rattle.tree.specs.Setup.{Settings, settings, settingsOf, on, firstCode}
+use Rattle.tree.specs.Setup.{Settings, settings, on, firstCode}
+use Rattle.tree.specs.Inner.{settingsOf}
 use Rattle.tree.proofs.Cases.{by-bool}
 use Rattle.tree.proofs.CheckLists.{code-then}
 use Rattle.user.specs.declared.call.Kept.{Kept}
@@ -21,9 +22,12 @@ use Rattle.user_read.specs.declared.call.Read.{Read}
 use Rattle.user_read.specs.declared.call.ReadStep.{ReadStep}
 use Rattle.user.specs.Asking.{userSetupChecks, requestRoom, refused}
 use Rattle.user.specs.Outcome.{State, stateOf, withKept, Key, Lent, lentOf, withHashes, withRequest, Outcome, nothing}
-use Rattle.user_update.specs.Update.{UpdateYields, updateTaken}
-use Rattle.user_write.specs.Write.{WriteYields, writeTaken}
-use Rattle.user_read.specs.Read.{ReadYields, readTaken}
+use Rattle.user_update.specs.Update.{updateTaken}
+use Rattle.user_update.specs.Inner.{UpdateYields}
+use Rattle.user_write.specs.Write.{writeTaken}
+use Rattle.user_write.specs.Inner.{WriteYields}
+use Rattle.user_read.specs.Read.{readTaken}
+use Rattle.user_read.specs.Inner.{ReadYields}
 use Rattle.user_calls.specs.Calls.{Call, idle, updating, writing, reading, answer, strayCode, taken, stepped}
 use Rattle.user.proofs.Passed.{setup-coded}
 use Rattle.user_read.proofs.ReadAnswers.{read-state}

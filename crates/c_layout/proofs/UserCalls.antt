@@ -3,7 +3,8 @@ use mathlib.Core.Path.{_≡_, refl, _∙_, sym, ap}
 use mathlib.Core.List.{List, []}
 use Prim.Native.Nat.{ℕ}
 use Rattle.tree.specs.declared.setup.Config.{Config}
-use Rattle.tree.specs.Setup.{settings, settingsOf}
+use Rattle.tree.specs.Setup.{settings}
+use Rattle.tree.specs.Inner.{settingsOf}
 use Rattle.user.specs.declared.call.Kept.{Kept}
 use Rattle.user.specs.declared.call.Settled.{Settled}
 use Rattle.user_update.specs.declared.call.UpdateStep.{UpdateStep}
@@ -12,11 +13,14 @@ use Rattle.user_read.specs.declared.call.ReadStep.{ReadStep}
 use Rattle.user.specs.Outcome.{State, stateOf, withKept, Key, keyOf, Lent, lentOf, withRequest, withEntry, Outcome, nothing}
 use Rattle.user.specs.Settled.{settledGiven}
 use Rattle.user_update.specs.declared.call.Update.{Update}
-use Rattle.user_update.specs.Update.{UpdateYields, updateStarted}
+use Rattle.user_update.specs.Update.{updateStarted}
+use Rattle.user_update.specs.Inner.{UpdateYields}
 use Rattle.user_write.specs.declared.call.Write.{Write}
-use Rattle.user_write.specs.Write.{WriteStarts, writeStarted}
+use Rattle.user_write.specs.Write.{writeStarted}
+use Rattle.user_write.specs.Inner.{WriteStarts}
 use Rattle.user_read.specs.declared.call.Read.{Read}
-use Rattle.user_read.specs.Read.{ReadYields, readStarted}
+use Rattle.user_read.specs.Read.{readStarted}
+use Rattle.user_read.specs.Inner.{ReadYields}
 use Rattle.user_calls.specs.Calls.{Call, updating, writing, reading, Input, startUpdate, startWrite, startRead, stepped}
 use Rattle.user_calls.proofs.Unchanged.{update-start-finds, write-start-finds}
 use Rattle.c_layout.specs.User.{markOf, keptOf, callBytes, callOf, callAfter, askedOf, UserLent, userLent, stateIn, lentIn, userLeft, userBegun, updateBegun, readBegun, writeBegun, Begins, WriteBegins, settledAnswer}

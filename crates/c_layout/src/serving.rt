@@ -1,7 +1,7 @@
 // The server's call, its head in 39 lent bytes.
 ghost use mathlib.Core.Path.{_≡_};
 ghost use Prim.Native.Nat.{_≤_};
-ghost use Rattle.tree.specs.Setup.{settingsOf};
+ghost use Rattle.tree.specs.Inner.{settingsOf};
 ghost use Rattle.server.specs.Serve.{served};
 ghost use Rattle.server.specs.Inner.{Serves};
 ghost use Rattle.c_layout.specs.Server.{headBytes, headOf, resultOf, serverAnswered, ServerYields};

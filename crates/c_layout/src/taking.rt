@@ -1,7 +1,8 @@
 // An answer taken in by the user's call that 82 lent bytes stand for.
 ghost use mathlib.Core.List.{List};
 ghost use Prim.Native.Nat.{ℕ};
-ghost use Rattle.tree.specs.Setup.{settings, settingsOf};
+ghost use Rattle.tree.specs.Setup.{settings};
+ghost use Rattle.tree.specs.Inner.{settingsOf};
 ghost use Rattle.user.specs.Outcome.{Key, keyOf};
 ghost use Rattle.user_calls.specs.Calls.{idle, updating, writing, reading};
 ghost use Rattle.c_layout.specs.User.{updateOf, writeOf, readOf, userLent, UserYields, answeredBy, userAnswered};

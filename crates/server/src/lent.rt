@@ -1,5 +1,5 @@
 // The head as the record that document 01 lends to the server.
-ghost use Rattle.tree.specs.Setup.{settingsOf};
+ghost use Rattle.tree.specs.Inner.{settingsOf};
 ghost use Rattle.server.specs.Serve.{served};
 ghost use Rattle.server.specs.Inner.{ServesLent};
 use super::Head;

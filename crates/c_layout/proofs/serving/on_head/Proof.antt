@@ -48,11 +48,12 @@ use denote.Triple.Spec.{Meets, tripleOf}
 use denote.Triple.Table.{entered, cited}
 use denote.Triple.Walked.{says, Stays, stay-dropped, gave-slice, walkOf, AllGo, goes-dropped, goes-gave-slice, Walks, ends-at, walked}
 use denote.Triple.Walked.{walk-meets, Silent, Goes}
-use Rattle.tree.specs.Setup.{settingsOf}
+use Rattle.tree.specs.Inner.{settingsOf}
 use Rattle.tree.specs.declared.setup.Config.{Config}
 use Rattle.tree.proofs.setup.Config as config
 use Rattle.tree.proofs.setup.Config.Laws as config-laws
-use Rattle.server.specs.Serve.{ServeOutcome, served, replyOf}
+use Rattle.server.specs.Serve.{ServeOutcome, served}
+use Rattle.server.specs.Inner.{replyOf}
 use Rattle.server.specs.declared.Head.{Head}
 use Rattle.server.specs.declared.Out.{Out}
 use Rattle.server.specs.declared.lent.Reply.{Reply}

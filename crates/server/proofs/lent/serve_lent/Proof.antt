@@ -45,11 +45,12 @@ use denote.Triple.Spec.{Meets, tripleOf}
 use denote.Triple.Table.{entered, cited}
 use denote.Triple.Walked.{says, Stays, stay-ref, stay-dropped, gave-slice, walkOf, AllGo, goes-ref, goes-dropped, goes-gave-slice, Walks}
 use denote.Triple.Walked.{ends-at, walked, walk-meets, Silent, Goes}
-use Rattle.tree.specs.Setup.{settingsOf}
+use Rattle.tree.specs.Inner.{settingsOf}
 use Rattle.tree.specs.declared.setup.Config.{Config}
 use Rattle.tree.proofs.setup.Config as config
 use Rattle.tree.proofs.setup.Config.Laws as config-laws
-use Rattle.server.specs.Serve.{ServeOutcome, served, replyOf}
+use Rattle.server.specs.Serve.{ServeOutcome, served}
+use Rattle.server.specs.Inner.{replyOf}
 use Rattle.server.specs.declared.Head.{Head}
 use Rattle.server.specs.declared.Out.{Out}
 use Rattle.server.specs.declared.lent.Reply.{Reply}
