@@ -1,29 +1,28 @@
 -- What a call of an exported function leaves in the bytes is, read back, what the step leaves.
-use mathlib.Core.Path.{_≡_, refl, sym, _∙_, ap, ap₂}
-use mathlib.Core.Bool.{Bool, true, false, cond}
-use mathlib.Core.List.{List, [], _∷_, _++_}
-use Prim.Native.Nat.{ℕ, _+_, _≤_, _<_}
+use mathlib.Core.Path.{_≡_, refl, sym, _∙_, ap}
+use mathlib.Core.Bool.{cond}
+use mathlib.Core.List.{List, _++_}
+use Prim.Native.Nat.{ℕ, _+_, _≤_}
 use native.Mathlib.Omega.{arith}
 use lib.Dec.{eqb}
-use lib.ListN.{length, drop, length-append}
-use borrow.Author.Tests.{eq-eqb, ne-eqb}
-use Rattle.sha256.specs.Bytes.{be, written}
+use lib.ListN.{length, length-append}
+use borrow.Author.Tests.{eq-eqb}
+use Rattle.sha256.specs.Bytes.{written}
 use Rattle.sha256.proofs.Laws.{be-length, written-fits, written-length}
 use Rattle.tree.specs.Setup.{Settings}
 use Rattle.tree.proofs.Cases.{by-bool}
-use Rattle.user.specs.declared.call.Kept.{Kept}
 use Rattle.user.specs.declared.call.Step.{Step}
 use Rattle.user.specs.declared.call.Found.{Found}
-use Rattle.user.specs.Outcome.{State, Key, Lent, Outcome}
+use Rattle.user.specs.Outcome.{State, Lent, Outcome}
 use Rattle.user_update.specs.declared.call.Update.{Update}
 use Rattle.user_write.specs.declared.call.Write.{Write}
 use Rattle.user_read.specs.declared.call.Read.{Read}
 use Rattle.user_calls.specs.Calls.{Call, idle, updating, writing, reading, Input, startUpdate, startWrite, startRead, answer, asCall, taken, stepped}
 use Rattle.user_read.proofs.ReadAnswers.{read-state}
-use Rattle.c_layout.specs.User.{markOf, keptOf, updateBytes, writeBytes, readBytes, callBytes, callOf, callAfter, keptAfter, keptBy, askedOf, UserLent, userLent, stateIn, lentIn, UserOutcome, userLeft, userBegun, answeredBy, userAnswered}
+use Rattle.c_layout.specs.User.{keptOf, updateBytes, writeBytes, readBytes, callBytes, callOf, callAfter, keptAfter, keptBy, askedOf, UserLent, userLent, stateIn, lentIn, userLeft, userBegun}
 use Rattle.c_layout.proofs.Inverses.{mark-read, kept-decode-encode, update-decode-encode, write-decode-encode, read-decode-encode}
 use Rattle.whole_run.proofs.Starts.{update-start, read-start, write-start}
-use Rattle.c_runs.specs.Bytes.{UserBytes, stepOf, outcomeOf, begun, called, keyFor}
+use Rattle.c_runs.specs.Bytes.{UserBytes, stepOf, outcomeOf, begun, called}
 use Rattle.c_runs.proofs.Ranges.{KeptFits, UpdateFits, CallFits, Fits}
 
 -- a call's bytes take at most 82

@@ -1,21 +1,19 @@
 -- Every list of calls of the exported functions is a list of document 01's steps; so the fork bound holds of it.
 use mathlib.Core.Path.{_≡_, refl, sym, _∙_, ap, ap₂, subst, fun-ext}
-use mathlib.Core.Bool.{Bool, cond}
+use mathlib.Core.Bool.{cond}
 use mathlib.Core.List.{List, [], _∷_, _++_}
 use Prim.Native.Nat.{ℕ}
 use lib.Dec.{eqb}
-use lib.ListN.{length}
-use Rattle.tree.specs.Setup.{Settings, settings}
+use Rattle.tree.specs.Setup.{settings}
 use Rattle.tree.proofs.Cases.{by-eqb}
 use Rattle.user_calls.specs.Calls.{Input, startUpdate, startWrite, startRead, answer}
 use Rattle.server.specs.declared.Head.{Head}
-use Rattle.server.specs.Serve.{served}
 use Rattle.c_layout.specs.Server.{headOf, resultOf, serverAnswered}
 use Rattle.whole_run.specs.World.{Setup, settingsFor, Event, User, userStep, dropped}
 use Rattle.whole_run.specs.Runs.{serverAfter, World, Step, user, drops, server, newServer, NewWorld, newWorld, withUser, withServer, step, run, FairInput, FairStep, Fair}
 use Rattle.fork_bound.specs.Claim.{BoundHolds, ForkBound}
 use Rattle.fork_bound.proofs.Fork.{fork-bound}
-use Rattle.c_runs.specs.Bytes.{UserBytes, userOf, userCalled, callDropped, serverLeft, NewBytes, newUserBytes, newServerBytes}
+use Rattle.c_runs.specs.Bytes.{UserBytes, userOf, userCalled, callDropped, serverBytesAfter, NewBytes, newServerBytes}
 use Rattle.c_runs.specs.Runs.{ByteWorld, serverOf, worldOf, callStep, byteRun}
 use Rattle.c_runs.specs.Claim.{ByteForkBound, Sized}
 use Rattle.c_runs.proofs.Users.{Laid, user-same, user-laid}
@@ -47,7 +45,7 @@ beside w log us = record { users = us; server = serverOf (w .server); log = log 
 module _ (g : Setup) (w : ByteWorld) (h : Holds g w) where
   -- The world that the bytes stand for after a call is the world after the step.
   step-same : (x : Step) → FairStep g (worldOf w) x → worldOf (callStep g w x) ≡ step g (worldOf w) x
-  unfolding worldOf callStep step withUser withServer serverAfter userStep FairStep serverOf serverLeft serverAnswered resultOf
+  unfolding worldOf callStep step withUser withServer serverAfter userStep FairStep serverOf serverBytesAfter serverAnswered resultOf
   step-same (user a i) f =
       let s = settingsFor g a in
       let u = w .users a in
@@ -64,7 +62,7 @@ module _ (g : Setup) (w : ByteWorld) (h : Holds g w) where
   users-on a u l b = by-eqb (λ t. Laid (settingsFor g b) (cond t u (w .users b))) b a (λ e. rw e l) (λ _. h .users b)
 
   step-holds : (x : Step) → FairStep g (worldOf w) x → Holds g (callStep g w x)
-  unfolding worldOf callStep FairStep serverLeft
+  unfolding worldOf callStep FairStep serverBytesAfter
   step-holds (user a i) f =
       let u = w .users a in
       let l = user-laid (settingsFor g a) u (h .users a) i (fair-sized g (w .log) (userOf u) i f) in

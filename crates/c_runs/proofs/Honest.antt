@@ -1,32 +1,29 @@
 -- Every honest list of calls of the exported functions is an honest run; so no valid call is refused, and each does what it is for.
 use mathlib.Core.Path.{_≡_, refl, sym, _∙_, ap, ap₂, subst, fun-ext}
 use mathlib.Core.Logic.{_⊎_, inl, inr, ⊎-elim}
-use mathlib.Core.Bool.{Bool, true, false, cond, _&&_}
-use mathlib.Core.List.{List, [], _∷_, _++_}
-use Prim.Native.Nat.{ℕ, zero, suc, _≤_}
+use mathlib.Core.Bool.{Bool, false, cond, _&&_}
+use mathlib.Core.List.{List, [], _∷_}
+use Prim.Native.Nat.{ℕ, zero, suc}
 use lib.Dec.{eqb}
-use lib.ListN.{length, take}
-use borrow.Author.Tests.{eq-eqb, ne-eqb}
-use Rattle.tree.specs.Setup.{settings}
+use borrow.Author.Tests.{ne-eqb}
 use Rattle.tree.proofs.Cases.{by-bool, by-eqb, cases-eq}
 use Rattle.user.specs.declared.call.Kept.{Kept}
 use Rattle.user.specs.declared.call.Step.{Step}
 use Rattle.user_calls.specs.Calls.{Input, startUpdate, startWrite, startRead, answer}
 use Rattle.server.specs.declared.Head.{Head}
-use Rattle.server.specs.Serve.{ServeOutcome, served}
 use Rattle.c_layout.specs.Server.{headOf, resultOf, serverAnswered}
 use Rattle.whole_run.specs.World.{Sent, User, returned, userStep}
-use Rattle.whole_run.specs.Runs.{NewWorld, Server, newServer, serverAfter, set}
-use Rattle.honest_run.specs.Network.{HonestSetup, InRange, settingsIn, publicTo, Network, reply, answerBytes, arrives, steps, comesBack}
-use Rattle.honest_run.specs.Network.{Kind, inRecords, networkAfter, handed, Act, calls, Written, Run, wrote, doAct, newNetwork, runOf, runSeen}
+use Rattle.whole_run.specs.Runs.{Server, newServer, serverAfter}
+use Rattle.honest_run.specs.Network.{HonestSetup, settingsIn, publicTo, Network, reply, answerBytes, arrives, steps, comesBack}
+use Rattle.honest_run.specs.Network.{inRecords, networkAfter, handed, Act, calls, Run, wrote, doAct, newNetwork, runOf, runSeen}
 use Rattle.honest_run.specs.Claim.{ValidInput, ValidCall, countOf, AllValid, NotRefused, Serves, CallsServe, HonestRun, Valid, Refused}
 use Rattle.honest_run.proofs.Theorem.{honest-run}
-use Rattle.c_runs.specs.Bytes.{UserBytes, userOf, stepOf, called, userCalled, ServerBytes, serverLeft, NewBytes, newUserBytes, newServerBytes}
+use Rattle.c_runs.specs.Bytes.{UserBytes, userOf, stepOf, called, userCalled, serverBytesAfter, NewBytes, newServerBytes}
 use Rattle.c_runs.specs.Runs.{ByteNetwork, serverOf, networkOf, replyBytes, byteArrives, byteAnswer, byteSteps, inBytes, zeroNetwork}
 use Rattle.c_runs.specs.Claim.{Sized, AllSized, ByteHonestRun}
 use Rattle.c_runs.proofs.Users.{Laid, user-same, user-laid, step-same, refusal-same}
 use Rattle.c_runs.proofs.Servers.{HeadSmall, head-small, head-same}
-use Rattle.c_runs.proofs.Zeros.{zeroUser, zeroServer, user-zero, head-zero, head-zero-small, laid-zero}
+use Rattle.c_runs.proofs.Zeros.{user-zero, head-zero, head-zero-small, laid-zero}
 use Rattle.c_runs.proofs.Forks.{users-set, zeroWorld}
 use Rattle.honest_run.proofs.Frames.{runFrom}
 
@@ -56,8 +53,8 @@ module _ (c : HonestSetup) (w : ByteNetwork) (h : Holds c w) (a : ℕ) (i : Inpu
 
 -- a request that arrives
 module _ (c : HonestSetup) (w : ByteNetwork) (h : Holds c w) where
-  reply-same : (x : Sent) → serverOf (serverLeft (replyBytes c w x)) ≡ serverAfter (reply c (networkOf w) x)
-  unfolding networkOf serverOf serverLeft replyBytes serverAnswered resultOf reply serverAfter
+  reply-same : (x : Sent) → serverOf (serverBytesAfter (replyBytes c w x)) ≡ serverAfter (reply c (networkOf w) x)
+  unfolding networkOf serverOf serverBytesAfter replyBytes serverAnswered resultOf reply serverAfter
   reply-same x =
       let k = w .servers (x .server) in
       rw (head-same (c .servers) (x .server) (c .log) (publicTo c (c .count)) (k .head) (k .store) (k .used) (x .bytes) (c .answers (x .server)) (h .heads (x .server)))
@@ -67,14 +64,14 @@ module _ (c : HonestSetup) (w : ByteNetwork) (h : Holds c w) where
   arrives-same a =
       let x = w .users a .sent in
       ap (λ (ss : ℕ → Server). record { users = λ b. userOf (w .users b); servers = ss })
-      (users-set serverOf (w .servers) (x .server) (serverLeft (replyBytes c w x)) (serverAfter (reply c (networkOf w) x)) (reply-same x))
+      (users-set serverOf (w .servers) (x .server) (serverBytesAfter (replyBytes c w x)) (serverAfter (reply c (networkOf w) x)) (reply-same x))
 
   answer-same : (a : ℕ) → byteAnswer c w a ≡ comesBack c (networkOf w) a
   unfolding byteAnswer comesBack networkOf userOf serverOf replyBytes serverAnswered resultOf reply answerBytes
   answer-same a = refl
 
   arrives-hold : (a : ℕ) → Holds c (byteArrives c w a)
-  unfolding byteArrives serverLeft replyBytes
+  unfolding byteArrives serverBytesAfter replyBytes
   arrives-hold a =
       let x = w .users a .sent in
       let k = w .servers (x .server) in
@@ -84,7 +81,7 @@ module _ (c : HonestSetup) (w : ByteNetwork) (h : Holds c w) where
       (head-small (settingsIn c (x .server)) (headOf (k .head)) (k .store) (k .used) (x .bytes) (c .answers (x .server)) (h .heads (x .server))) in
       record {
         users = h .users;
-        heads = λ s. by-eqb (λ t. HeadSmall (headOf (cond t (serverLeft (replyBytes c w x)) (w .servers s) .head))) s (x .server) (λ _. small) (λ _. h .heads s);
+        heads = λ s. by-eqb (λ t. HeadSmall (headOf (cond t (serverBytesAfter (replyBytes c w x)) (w .servers s) .head))) s (x .server) (λ _. small) (λ _. h .heads s);
       }
 
 -- the answer that comes back is an answer

@@ -1,13 +1,13 @@
 -- What a step with code 0 leaves: it fits the bytes that it is laid in, a request is out exactly if the call goes on, and a call that has
 -- ended takes no answer.
-use mathlib.Core.Path.{_≡_, refl, sym, _∙_, ap, ap₂}
-use mathlib.Core.Bool.{Bool, true, false, cond, _&&_}
+use mathlib.Core.Path.{_≡_, refl, sym, _∙_, ap₂}
+use mathlib.Core.Bool.{true, false, cond, _&&_}
 use mathlib.Core.List.{List}
-use Prim.Native.Nat.{ℕ, suc, _+_, _≤_, _<_, min, max}
+use Prim.Native.Nat.{ℕ, _+_, _≤_, _<_, min}
 use native.Mathlib.Omega.{arith}
 use lib.Dec.{eqb, leb, ltb}
 use lib.ListN.{length, length-replicate}
-use borrow.Author.Tests.{eq-eqb, ne-eqb, eqb-true, eqb-false, leb-true, lt-ltb, le-ltb}
+use borrow.Author.Tests.{ne-eqb, eqb-true, eqb-false, leb-true, lt-ltb, le-ltb}
 use Rattle.tree.specs.Bytes.{written}
 use Rattle.tree.specs.Label.{owner}
 use Rattle.tree.specs.Message.{answerBody}
@@ -22,8 +22,8 @@ use Rattle.user.specs.Asking.{userSetupChecks, requestRoom, ofNode, ofStatus, r
 use Rattle.user.specs.Outcome.{State, Lent, withHashes, withHeld, Outcome}
 use Rattle.user.proofs.Passed.{setup-passed, by-cond}
 use Rattle.user_update.specs.declared.call.Update.{Update}
-use Rattle.user_update.specs.Update.{freshUpdate, toldLabel, headHolds, statusTaken, updateWant, updateNext, updateHashes, updateChecks, updateEnded, arrived, updateGoes, updateSetup, updateStarted, updateTaken}
-use Rattle.user_update.proofs.UpdateRules.{Above, Taken, by-taken, by-goes, endedWith, goingOn, fresh-waits, status-small}
+use Rattle.user_update.specs.Update.{freshUpdate, toldLabel, headHolds, statusTaken, updateWant, updateNext, updateHashes, updateChecks, arrived, updateSetup, updateStarted, updateTaken}
+use Rattle.user_update.proofs.UpdateRules.{Above, Taken, by-taken, by-goes, fresh-waits, status-small}
 use Rattle.user_update.proofs.UpdateAnswers.{stays-above, taken-over}
 use Rattle.user_update.proofs.Updates.{told-short}
 use Rattle.user_write.specs.declared.call.Write.{Write}
@@ -34,7 +34,7 @@ use Rattle.user_read.specs.declared.call.Read.{Read}
 use Rattle.user_read.specs.Read.{readWant, readChecks, readCount, freshRead, readAsks, readEnds, readNext, readCollected, readStarted, readTaken}
 use Rattle.user_read.proofs.ReadRules as Reads
 use Rattle.user_read.proofs.ReadAnswers.{read-state, read-place, read-ends}
-use Rattle.user_calls.specs.Calls.{Call, idle, updating, writing, reading, Input, startUpdate, startWrite, startRead, answer, asCall, taken, stepped}
+use Rattle.user_calls.specs.Calls.{Call, idle, updating, writing, reading, answer, asCall, taken}
 use Rattle.whole_run.proofs.Requests.{entry-sizes}
 
 -- the ranges
@@ -77,7 +77,7 @@ pub record Fits (m : Lent) (o : Outcome Call) : Type 0 where
   pub out : eqb (o .step .server) 0 ≡ o .step .ended
   pub key : o .lent .key ≡ m .key
 
-pub record Leaves (s : Settings) (m : Lent) (o : Outcome Call) : Type 0 where
+pub record StepOk (s : Settings) (m : Lent) (o : Outcome Call) : Type 0 where
   pub fits : Fits m o
   pub above : o .step .ended ≡ false → CallAbove s (o .state) (o .call)
   pub over : o .step .ended ≡ true → (l : Lent) (a : List ℕ) → taken s (o .state) l (o .call) a .step .code ≡ 0 → ⊥
@@ -280,20 +280,20 @@ module _ (s : Settings) where
       rw same x
 
   -- an answer
-  pub answer-leaves : (σ : State) (m : Lent) (c : Call) (a : List ℕ) → KeptFits (σ .kept) → CallFits c → CallAbove s σ c → taken s σ m c a .step .code ≡ 0
-      → Leaves s m (taken s σ m c a)
+  pub answer-ok : (σ : State) (m : Lent) (c : Call) (a : List ℕ) → KeptFits (σ .kept) → CallFits c → CallAbove s σ c → taken s σ m c a .step .code ≡ 0
+      → StepOk s m (taken s σ m c a)
   unfolding taken
-  answer-leaves σ m idle a k f g z = absurd f
-  answer-leaves σ m (updating u) a k f g z =
+  answer-ok σ m idle a k f g z = absurd f
+  answer-ok σ m (updating u) a k f g z =
       record { fits = update-fits σ m u a k f z; above = λ e. update-above σ m u a g z e; over = λ e l b. taken-over s σ m u a g z e l b }
-  answer-leaves σ m (writing w) a k f g z =
+  answer-ok σ m (writing w) a k f g z =
       record { fits = write-fits σ m w a k f z; above = λ _. tt; over = λ e l b. write-over σ m w a k f z e l b }
-  answer-leaves σ m (reading r) a k f g z =
+  answer-ok σ m (reading r) a k f g z =
       record { fits = read-fits σ m r a k f z; above = λ _. tt; over = λ e l b. read-over σ m r a z e l b }
 
   -- the starts: each leaves what is kept, and has a request out
   abbrev Begins : State → Lent → Outcome Call → Type 0
-  Begins σ m o = o .step .code ≡ 0 → Leaves s m o × (o .state ≡ σ)
+  Begins σ m o = o .step .code ≡ 0 → StepOk s m o × (o .state ≡ σ)
 
   module _ (σ : State) (m : Lent) (k : KeptFits (σ .kept)) where
     first-above : 0 < n → Above n (σ .kept .version) freshUpdate

@@ -1,13 +1,11 @@
 -- A call of the server's exported function is, on the head that the bytes stand for, the server's step.
 use mathlib.Core.Path.{_≡_, refl, sym, _∙_, ap, subst}
-use mathlib.Core.Bool.{Bool, true, false, cond, _&&_}
 use mathlib.Core.List.{List}
-use Prim.Native.Nat.{ℕ, _-_, _≤_, _<_, max}
+use Prim.Native.Nat.{ℕ, _-_, _≤_, _<_}
 use native.Mathlib.Omega.{arith}
 use lib.Dec.{eqb, leb}
 use lib.ListN.{length, take}
 use borrow.Author.Tests.{eq-eqb, ne-eqb, leb-true}
-use Rattle.tree.specs.Level.{lg}
 use Rattle.tree.specs.Message.{requestKind, requestPosition, requestLevel, requestAuthor}
 use Rattle.tree.specs.Setup.{Settings, settings, userCount, listed, groupFits, firstCode}
 use Rattle.tree.proofs.Cases.{and-true, cases-eq}
@@ -21,7 +19,7 @@ use Rattle.server.proofs.Asked.{Fits, fits, names-node, in-log}
 use Rattle.server.proofs.Served.{Ready, setup-passed, early-passed, served-passed, served-refused}
 use Rattle.server.proofs.Theorems.{refusal-keeps-all, head-changes-only-by-reserve}
 use Rattle.user.proofs.Passed.{by-cond}
-use Rattle.c_layout.specs.Server.{headBytes, headOf, serverAnswered}
+use Rattle.c_layout.specs.Server.{headOf, serverAnswered}
 use Rattle.c_layout.proofs.Heads.{decode-encode}
 
 -- a head whose fields fit their bytes

@@ -4,23 +4,21 @@ use mathlib.Core.Logic.{_⊎_, inl, inr, ⊎-elim}
 use mathlib.Core.Bool.{Bool, true, false, cond, _&&_}
 use mathlib.Core.List.{List}
 use Prim.Native.Nat.{ℕ}
-use native.Mathlib.Omega.{arith}
 use lib.Dec.{eqb}
-use lib.ListN.{length, length-replicate}
+use lib.ListN.{length}
 use borrow.Author.Tests.{eq-eqb, ne-eqb}
 use Rattle.tree.specs.Setup.{Settings}
 use Rattle.tree.proofs.Cases.{by-bool, cases-eq}
-use Rattle.user.specs.declared.call.Step.{Step}
 use Rattle.user.specs.Asking.{refused}
-use Rattle.user.specs.Outcome.{State, Key, Lent, Outcome}
+use Rattle.user.specs.Outcome.{State, Lent, Outcome}
 use Rattle.user_calls.specs.Calls.{Call, idle, Input, startUpdate, startWrite, startRead, answer, taken, stepped}
 use Rattle.c_layout.specs.User.{keptOf, callOf, keptBy, askedOf, UserLent, stateIn, lentIn, UserOutcome, userLeft, answeredBy, userAnswered}
-use Rattle.whole_run.specs.World.{User, sentBy, returned, after, userStep}
+use Rattle.whole_run.specs.World.{sentBy, returned, after, userStep}
 use Rattle.whole_run.proofs.Refusals.{accepted-step, refused-step}
 use Rattle.fork_bound.proofs.UserSteps.{stray}
 use Rattle.c_runs.specs.Bytes.{UserBytes, userOf, stepOf, outcomeOf, called, keyFor, userCalled}
 use Rattle.c_runs.specs.Claim.{Sized}
-use Rattle.c_runs.proofs.Ranges.{KeptFits, CallFits, CallAbove, Fits, Leaves, answer-leaves, update-begins, read-begins, write-begins}
+use Rattle.c_runs.proofs.Ranges.{KeptFits, CallFits, CallAbove, StepOk, answer-ok, update-begins, read-begins, write-begins}
 use Rattle.c_runs.proofs.Decoding.{outcome-read, kept-answered, call-size, given, outcome, update-called, read-called, write-called}
 
 -- what holds of a user's bytes between calls
@@ -65,14 +63,14 @@ module _ (s : Settings) (u : UserBytes) (laid : Laid s u) where
   lentWith (answer a) = lentIn b (u .key)
 
   pub record Read (i : Input) : Type 0 where
-    pub leaves : Leaves s (lentWith i) (outcome s u i)
+    pub step : StepOk s (lentWith i) (outcome s u i)
     pub same : outcomeOf (called s u i) (keyFor u i) ≡ outcome s u i
 
-  start-read : (m : Lent) (o : Outcome Call) → o .step .code ≡ 0 → Leaves s m o → o .state ≡ σ
+  start-read : (m : Lent) (o : Outcome Call) → o .step .code ≡ 0 → StepOk s m o → o .state ≡ σ
       → outcomeOf (userLeft (given b m) (b .kept) o) (m .key) ≡ o
   start-read m o z l e = outcome-read (given b m) (b .kept) o m z (l .fits) (laid .size) (sym (ap (λ (x : State). x .kept) e))
 
-  answer-read : (a : List ℕ) → CallFits (callOf (b .call)) → Leaves s (lentIn b (u .key)) (outcome s u (answer a)) → outcome s u (answer a) .step .code ≡ 0
+  answer-read : (a : List ℕ) → CallFits (callOf (b .call)) → StepOk s (lentIn b (u .key)) (outcome s u (answer a)) → outcome s u (answer a) .step .code ≡ 0
       → outcomeOf (called s u (answer a)) (u .key) ≡ outcome s u (answer a)
   unfolding called userAnswered answeredBy stepped
   answer-read a f l z =
@@ -86,28 +84,28 @@ module _ (s : Settings) (u : UserBytes) (laid : Laid s u) where
   reads (startUpdate m) sized z =
       let x = update-begins s σ m (laid .kept) z in
       record {
-        leaves = x .0;
+        step = x .0;
         same = ap (λ (o : UserOutcome). outcomeOf o (m .key)) (update-called s u m) ∙ start-read m (outcome s u (startUpdate m)) z (x .0) (x .1);
       }
   reads (startWrite m entry randomizer) sized z =
       let x = write-begins s σ m (laid .kept) entry randomizer sized z in
       record {
-        leaves = x .0;
+        step = x .0;
         same = ap (λ (o : UserOutcome). outcomeOf o (m .key)) (write-called s u m entry randomizer)
             ∙ start-read m (outcome s u (startWrite m entry randomizer)) z (x .0) (x .1);
       }
   reads (startRead m i) sized z =
       let x = read-begins s σ m (laid .kept) i z in
       record {
-        leaves = x .0;
+        step = x .0;
         same = ap (λ (o : UserOutcome). outcomeOf o (m .key)) (read-called s u m i) ∙ start-read m (outcome s u (startRead m i)) z (x .0) (x .1);
       }
   reads (answer a) sized z =
       by-bool (λ t. eqb (u .sent .server) 0 ≡ t → Read (answer a)) (eqb (u .sent .server) 0) (λ _ e. absurd (laid .over e a z))
       (λ _ e.
       let g = laid .goes e in
-      let l = answer-leaves s σ (lentIn b (u .key)) (callOf (b .call)) a (laid .kept) (g .0) (g .1) z in
-      record { leaves = l; same = answer-read a (g .0) l z }) refl
+      let l = answer-ok s σ (lentIn b (u .key)) (callOf (b .call)) a (laid .kept) (g .0) (g .1) z in
+      record { step = l; same = answer-read a (g .0) l z }) refl
 
   -- the code is the step's, and the call's bytes stay as many
   code-same : (i : Input) → called s u i .result .code ≡ outcome s u i .step .code
@@ -145,7 +143,7 @@ module _ (s : Settings) (u : UserBytes) (laid : Laid s u) where
     next-is = rw (eq-eqb (called s u i .result .code) 0 (code-same i ∙ z))
 
     request-out : eqb (x .step .server) 0 ≡ x .step .ended
-    request-out = subst (λ (o : Outcome Call). eqb (o .step .server) 0 ≡ o .step .ended) (sym (r .same)) (r .leaves .fits .out)
+    request-out = subst (λ (o : Outcome Call). eqb (o .step .server) 0 ≡ o .step .ended) (sym (r .same)) (r .step .fits .out)
 
     out-returned : eqb (x .step .server) 0 ≡ returned (x .step)
     unfolding returned
@@ -167,7 +165,7 @@ module _ (s : Settings) (u : UserBytes) (laid : Laid s u) where
     next-laid : Laid s next
     unfolding outcomeOf after sentBy
     next-laid =
-        let l = r .leaves in
+        let l = r .step in
         let goes : x .step .ended ≡ false → CallFits (x .call) × CallAbove s (x .state) (x .call) =
         subst (λ (o : Outcome Call). o .step .ended ≡ false → CallFits (o .call) × CallAbove s (o .state) (o .call)) (sym (r .same))
         (λ e. (l .fits .call, l .above e)) in

@@ -1,23 +1,22 @@
 -- The zero bytes that callers begin with stand for new users and new servers; so do those of a call that is dropped for none.
-use mathlib.Core.Path.{_≡_, refl, subst, sym, ap}
-use mathlib.Core.Bool.{true, false}
-use mathlib.Core.List.{List, []}
-use Prim.Native.Nat.{ℕ, _<_}
+use mathlib.Core.Path.{_≡_, refl, subst, sym}
+use mathlib.Core.Bool.{true}
+use mathlib.Core.List.{List}
+use Prim.Native.Nat.{ℕ}
 use native.Mathlib.Omega.{arith}
-use lib.ListN.{length, replicate, length-replicate}
+use lib.ListN.{replicate, length-replicate}
 use Rattle.sha256.specs.Bytes.{numberAt}
 use Rattle.tree.specs.Setup.{Settings}
 use Rattle.tree.proofs.Cases.{not-both}
 use Rattle.user.specs.Asking.{refused}
 use Rattle.user.specs.Outcome.{State, Lent}
-use Rattle.user_calls.specs.Calls.{Call, idle, taken}
+use Rattle.user_calls.specs.Calls.{taken}
 use Rattle.c_layout.specs.User.{keptOf, callOf}
 use Rattle.c_layout.specs.Server.{headOf}
 use Rattle.whole_run.specs.World.{dropped}
 use Rattle.whole_run.specs.Runs.{NewUser, NewServer, newUser, newHead}
 use Rattle.fork_bound.proofs.UserSteps.{stray}
 use Rattle.c_runs.specs.Bytes.{UserBytes, userOf, cleared, callDropped, NewBytes, newUserBytes, newServerBytes}
-use Rattle.c_runs.proofs.Ranges.{KeptFits}
 use Rattle.c_runs.proofs.Users.{Laid}
 use Rattle.c_runs.proofs.Servers.{HeadSmall}
 

@@ -85,8 +85,8 @@ pub record ServerBytes : Type 0 where
   pub store : List ℕ
   pub used : ℕ
 
-unfoldable pub serverLeft : ServerOutcome → ServerBytes
-serverLeft o = record { head = o .head; store = o .store; used = o .result .used }
+unfoldable pub serverBytesAfter : ServerOutcome → ServerBytes
+serverBytesAfter o = record { head = o .head; store = o .store; used = o .result .used }
 
 -- Callers begin with zero bytes (include/kozbrax.h): "all zero for a new user", its call's too, and a server's head "all zero at first".
 -- The contents of path, signature and store are free.

@@ -9,7 +9,7 @@ use Rattle.c_layout.specs.Server.{headOf, ServerOutcome, serverAnswered}
 use Rattle.whole_run.specs.World.{Setup, settingsFor, Event, Sent, eventsOf}
 use Rattle.whole_run.specs.Runs.{World, Step, user, drops, server, serverEvents, Server, set}
 use Rattle.honest_run.specs.Network.{HonestSetup, publicTo, settingsIn, Network, Kind}
-use Rattle.c_runs.specs.Bytes.{UserBytes, userOf, stepOf, called, userCalled, callDropped, ServerBytes, serverLeft, NewBytes, newUserBytes, newServerBytes}
+use Rattle.c_runs.specs.Bytes.{UserBytes, userOf, stepOf, called, userCalled, callDropped, ServerBytes, serverBytesAfter, NewBytes, newUserBytes, newServerBytes}
 
 -- All users and H in bytes, and what was noted, the newest first; the world that they stand for.
 pub record ByteWorld : Type 0 where
@@ -33,7 +33,7 @@ callStep g w (drops a) = record { users = set (w .users) a (callDropped (w .user
 callStep g w (server q buffer) =
     let h = w .server in
     let o = serverAnswered (g .servers) (g .follows) (g .log) (g .users) (h .head) (h .store) (h .used) q buffer in
-    record { users = w .users; server = serverLeft o; log = serverEvents q (o .result .answer) (o .answer) ++ w .log }
+    record { users = w .users; server = serverBytesAfter o; log = serverEvents q (o .result .answer) (o .answer) ++ w .log }
 
 -- A list of such calls, the last one first, from the zero bytes on.
 unfoldable pub byteRun : Setup → NewBytes → List Step → ByteWorld
@@ -57,7 +57,7 @@ replyBytes c w x = let h = w .servers (x .server) in
 unfoldable pub byteArrives : HonestSetup → ByteNetwork → ℕ → ByteNetwork
 byteArrives c w a =
     let x = w .users a .sent in
-    record { users = w .users; servers = set (w .servers) (x .server) (serverLeft (replyBytes c w x)) }
+    record { users = w .users; servers = set (w .servers) (x .server) (serverBytesAfter (replyBytes c w x)) }
 
 unfoldable pub byteAnswer : HonestSetup → ByteNetwork → ℕ → Input
 byteAnswer c w a = let o = replyBytes c w (w .users a .sent) in answer (take (o .result .answer) (o .answer))
