@@ -4,13 +4,13 @@ use mathlib.Core.Bool.{cond}
 use mathlib.Core.List.{List, [], _∷_, _++_}
 use Prim.Native.Nat.{ℕ}
 use lib.Dec.{eqb}
-use Rattle.tree.specs.Setup.{settings}
 use Rattle.tree.proofs.Cases.{by-eqb}
 use Rattle.user_calls.specs.Calls.{Input, startUpdate, startWrite, startRead, answer}
 use Rattle.server.specs.declared.Head.{Head}
+use Rattle.server.specs.Serve.{served}
 use Rattle.c_layout.specs.Server.{headOf, resultOf, serverAnswered}
 use Rattle.whole_run.specs.World.{Setup, settingsFor, Event, User, userStep, dropped}
-use Rattle.whole_run.specs.Runs.{serverAfter, World, Step, user, drops, server, newServer, NewWorld, newWorld, withUser, withServer, step, run, FairInput, FairStep, Fair}
+use Rattle.whole_run.specs.Runs.{Server, serverAfter, serverEvents, World, Step, user, drops, server, newServer, NewWorld, newWorld, withUser, withServer, step, run, FairInput, FairStep, Fair}
 use Rattle.fork_bound.specs.Claim.{BoundHolds, ForkBound}
 use Rattle.fork_bound.proofs.Fork.{fork-bound}
 use Rattle.c_runs.specs.Bytes.{UserBytes, userOf, userCalled, callDropped, serverBytesAfter, NewBytes, newServerBytes}
@@ -36,11 +36,11 @@ fair-sized g log u (answer a) f = tt
 -- what holds of the bytes between calls
 record Holds (g : Setup) (w : ByteWorld) : Type 0 where
   users : (a : ℕ) → Laid (settingsFor g a) (w .users a)
-  head : HeadSmall (headOf (w .server .head))
+  heads : (s : ℕ) → HeadSmall (headOf (w .servers s .head))
 
--- a world with H as the bytes have it
+-- a world with the servers as the bytes have them
 abbrev beside : ByteWorld → List Event → (ℕ → User) → World
-beside w log us = record { users = us; server = serverOf (w .server); log = log }
+beside w log us = record { users = us; servers = λ s. serverOf (w .servers s); log = log }
 
 module _ (g : Setup) (w : ByteWorld) (h : Holds g w) where
   -- The world that the bytes stand for after a call is the world after the step.
@@ -54,8 +54,15 @@ module _ (g : Setup) (w : ByteWorld) (h : Holds g w) where
       (user-same s u (h .users a) i (fair-sized g (w .log) (userOf u) i f)))
   step-same (drops a) f =
       ap (beside w (w .log)) (users-set userOf (w .users) a (callDropped (w .users a)) (dropped (userOf (w .users a))) (user-dropped (w .users a)))
-  step-same (server q buffer) f =
-      rw (head-same (g .servers) (g .follows) (g .log) (g .users) (w .server .head) (w .server .store) (w .server .used) q buffer (h .head))
+  step-same (server s q buffer) f =
+      let b = w .servers s in
+      let o = serverAnswered (g .servers) s (g .log) (g .users) (b .head) (b .store) (b .used) q buffer in
+      let l = served (settingsFor g s) (headOf (b .head)) (b .store) (b .used) q buffer in
+      let log = serverEvents s q (l .out .answered) (l .answer) ++ w .log in
+      let users : ℕ → User = λ a. userOf (w .users a) in
+      ap (λ (k : ℕ → Server). record { users = users; servers = k; log = log })
+      (users-set serverOf (w .servers) s (serverBytesAfter o) (serverAfter l)
+      (rw (head-same (g .servers) s (g .log) (g .users) (b .head) (b .store) (b .used) q buffer (h .heads s))))
 
   -- What holds of the bytes stays so.
   users-on : (a : ℕ) (u : UserBytes) → Laid (settingsFor g a) u → (b : ℕ) → Laid (settingsFor g b) (cond (eqb b a) u (w .users b))
@@ -66,17 +73,18 @@ module _ (g : Setup) (w : ByteWorld) (h : Holds g w) where
   step-holds (user a i) f =
       let u = w .users a in
       let l = user-laid (settingsFor g a) u (h .users a) i (fair-sized g (w .log) (userOf u) i f) in
-      record { users = users-on a (userCalled (settingsFor g a) u i) l; head = h .head }
+      record { users = users-on a (userCalled (settingsFor g a) u i) l; heads = h .heads }
   step-holds (drops a) f =
-      record { users = users-on a (callDropped (w .users a)) (laid-dropped (settingsFor g a) (w .users a) (h .users a)); head = h .head }
-  step-holds (server q buffer) f =
-      let s = settings (g .servers) (g .follows) (g .log) (g .users) in
-      let b = w .server in
+      record { users = users-on a (callDropped (w .users a)) (laid-dropped (settingsFor g a) (w .users a) (h .users a)); heads = h .heads }
+  step-holds (server s q buffer) f =
+      let b = w .servers s in
+      let o = serverAnswered (g .servers) s (g .log) (g .users) (b .head) (b .store) (b .used) q buffer in
+      let small =
+      subst HeadSmall (sym (head-same (g .servers) s (g .log) (g .users) (b .head) (b .store) (b .used) q buffer (h .heads s)))
+      (head-small (settingsFor g s) (headOf (b .head)) (b .store) (b .used) q buffer (h .heads s)) in
       record {
         users = h .users;
-        head =
-            subst HeadSmall (sym (head-same (g .servers) (g .follows) (g .log) (g .users) (b .head) (b .store) (b .used) q buffer (h .head)))
-            (head-small s (headOf (b .head)) (b .store) (b .used) q buffer (h .head));
+        heads = λ t. by-eqb (λ e. HeadSmall (headOf (cond e (serverBytesAfter o) (w .servers t) .head))) t s (λ _. small) (λ _. h .heads t);
       }
 
 -- the new world that the zero bytes stand for
@@ -87,15 +95,15 @@ module _ (g : Setup) (b : NewBytes) where
   abbrev stood : List Step → World
   stood xs = worldOf (byteRun g b xs)
 
-  zero-same : stood [] ≡ newWorld g (zeroWorld b)
+  zero-same : stood [] ≡ newWorld (zeroWorld b)
   unfolding worldOf serverOf byteRun newServer newWorld newServerBytes
   zero-same =
-      ap₂ (λ (us : ℕ → User) (k : Head). record { users = us; server = record { head = k; store = b .store (g .follows); used = 0 }; log = [] })
-      (fun-ext (λ a. user-zero b a)) (head-zero b (g .follows))
+      ap₂ (λ (us : ℕ → User) (ks : ℕ → Head). record { users = us; servers = λ s. record { head = ks s; store = b .store s; used = 0 }; log = [] })
+      (fun-ext (λ a. user-zero b a)) (fun-ext (λ s. head-zero b s))
 
   all-hold : (xs : List Step) → Fair g stood xs → Holds g (byteRun g b xs)
   unfolding byteRun Fair
-  all-hold [] f = record { users = λ a. laid-zero (settingsFor g a) b a; head = head-zero-small b (g .follows) }
+  all-hold [] f = record { users = λ a. laid-zero (settingsFor g a) b a; heads = head-zero-small b }
   all-hold (x ∷ xs) f = step-holds g (byteRun g b xs) (all-hold xs (f .1)) x (f .0)
 
   -- A list of calls of the exported functions is a run.

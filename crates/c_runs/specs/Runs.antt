@@ -1,5 +1,4 @@
--- Lists of calls of the exported functions, over bytes: whole runs with one server that follows the rules, and honest runs with all of
--- them.
+-- Lists of calls of the exported functions, over bytes: whole runs with servers that follow the rules, and honest runs with all of them.
 use mathlib.Core.List.{List, [], _∷_, _++_}
 use Prim.Native.Nat.{ℕ}
 use lib.ListN.{take}
@@ -11,33 +10,34 @@ use Rattle.whole_run.specs.Runs.{World, Step, user, drops, server, serverEvents
 use Rattle.honest_run.specs.Network.{HonestSetup, publicTo, settingsIn, Network, Kind}
 use Rattle.c_runs.specs.Bytes.{UserBytes, userOf, stepOf, called, userCalled, callDropped, ServerBytes, serverBytesAfter, NewBytes, newUserBytes, newServerBytes}
 
--- All users and H in bytes, and what was noted, the newest first; the world that they stand for.
+-- All users and servers in bytes, and what was noted, the newest first; the world that they stand for.
 pub record ByteWorld : Type 0 where
   pub users : ℕ → UserBytes
-  pub server : ServerBytes
+  pub servers : ℕ → ServerBytes
   pub log : List Event
 
 unfoldable pub serverOf : ServerBytes → Server
 serverOf h = record { head = headOf (h .head); store = h .store; used = h .used }
 
 unfoldable pub worldOf : ByteWorld → World
-worldOf w = record { users = λ a. userOf (w .users a); server = serverOf (w .server); log = w .log }
+worldOf w = record { users = λ a. userOf (w .users a); servers = λ s. serverOf (w .servers s); log = w .log }
 
 -- A step is a call of an exported function, or a caller drops a user's call.
 unfoldable pub callStep : Setup → ByteWorld → Step → ByteWorld
 callStep g w (user a i) =
     let s = settingsFor g a in
     let u = w .users a in
-    record { users = set (w .users) a (userCalled s u i); server = w .server; log = eventsOf s (userOf u) i ++ w .log }
-callStep g w (drops a) = record { users = set (w .users) a (callDropped (w .users a)); server = w .server; log = w .log }
-callStep g w (server q buffer) =
-    let h = w .server in
-    let o = serverAnswered (g .servers) (g .follows) (g .log) (g .users) (h .head) (h .store) (h .used) q buffer in
-    record { users = w .users; server = serverBytesAfter o; log = serverEvents q (o .result .answer) (o .answer) ++ w .log }
+    record { users = set (w .users) a (userCalled s u i); servers = w .servers; log = eventsOf s (userOf u) i ++ w .log }
+callStep g w (drops a) = record { users = set (w .users) a (callDropped (w .users a)); servers = w .servers; log = w .log }
+callStep g w (server s q buffer) =
+    let h = w .servers s in
+    let o = serverAnswered (g .servers) s (g .log) (g .users) (h .head) (h .store) (h .used) q buffer in
+    let es = serverEvents s q (o .result .answer) (o .answer) in
+    record { users = w .users; servers = set (w .servers) s (serverBytesAfter o); log = es ++ w .log }
 
 -- A list of such calls, the last one first, from the zero bytes on.
 unfoldable pub byteRun : Setup → NewBytes → List Step → ByteWorld
-byteRun g b [] = record { users = newUserBytes b; server = newServerBytes b (g .follows); log = [] }
+byteRun g b [] = record { users = newUserBytes b; servers = newServerBytes b; log = [] }
 byteRun g b (x ∷ xs) = callStep g (byteRun g b xs) x
 
 -- All users and all servers in bytes, and the network that they stand for.

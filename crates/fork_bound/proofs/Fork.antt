@@ -48,7 +48,7 @@ module _ (g : Setup) (named : length (g .log) ≡ 16) (start : NewWorld) (xs : L
         let q = h .1 .reserves k z kb in
         let x = p .1 .took l lk o in
         let y = q .1 .took l lk o in
-        let e = one-digest-at-H (g .log) named w (holds .head) (p .0) (q .0) k l l _ _ (x .0) (y .0) (x .1) (x .2) (y .1) (y .2) in
+        let e = one-digest-at-H (g .log) named (g .follows) _ (w .log) (holds .head) (p .0) (q .0) k l l _ _ (x .0) (y .0) (x .1) (x .2) (y .1) (y .2) in
         established-agree whole free (f .0) (h .0) _ _ (f .1) (h .1) k z ka kb e
 
     -- both have read d

@@ -24,8 +24,8 @@ use Rattle.server.specs.Serve.{headAfter, headerGiven, answerGiven, ServeOutcom
 use Rattle.server.proofs.Served.{code, served-passed, served-refused}
 use Rattle.server.proofs.Theorems.{refusal-keeps-all, head-changes-only-by-reserve, position-never-falls, one-digest-a-position}
 use Rattle.server.proofs.After.{accepted-setup, accepted-code, accepted-fits}
-use Rattle.whole_run.specs.World.{Setup, answered}
-use Rattle.whole_run.specs.Runs.{World, NewWorld, newHead, newServer, newWorld, serverAfter, withServer, serverEvents}
+use Rattle.whole_run.specs.World.{Event, answered}
+use Rattle.whole_run.specs.Runs.{NewServer, newHead, serverEvents}
 use Rattle.whole_run.proofs.Answers.{all-given}
 
 -- the tenth byte of an answer is its code, whatever the other fields are
@@ -96,24 +96,25 @@ module _ (s : Settings) (h : Head) (store : List ℕ) (used : ℕ) (q buffer : L
       rw p (sym c ∙ (rw (all-given s h store used q buffer z) at e))
 
   -- a call notes its answer, if it gives one
-  noted : (r x : List ℕ) → List·Memᴰ (answered r x) (serverEvents q (after .out .answered) (after .answer))
-      → (r ≡ q) × (x ≡ take (after .out .answered) (after .answer)) × (after .out .answered ≡ 0 → ⊥)
+  pub noted : (H K : ℕ) (r x : List ℕ) → List·Memᴰ (answered H r x) (serverEvents K q (after .out .answered) (after .answer))
+      → (r ≡ q) × (x ≡ take (after .out .answered) (after .answer)) × (H ≡ K) × (after .out .answered ≡ 0 → ⊥)
   unfolding serverEvents
-  noted r x m =
+  noted H K r x m =
       let a : List ℕ = take (after .out .answered) (after .answer) in
-      by-eqb (λ b. List·Memᴰ (answered r x) (cond b [] (answered q a ∷ [])) → (r ≡ q) × (x ≡ a) × (after .out .answered ≡ 0 → ⊥)) (after .out .answered) 0
+      let Given = (r ≡ q) × (x ≡ a) × (H ≡ K) × (after .out .answered ≡ 0 → ⊥) in
+      by-eqb (λ b. List·Memᴰ (answered H r x) (cond b [] (answered K q a ∷ [])) → Given) (after .out .answered) 0
       (λ _ i. absurd (List·Memᴰ·not-nil i))
-      (λ n i. elim (List·Memᴰ·cases-cons i) [ inl e ↦ (cc, cc, n) | inr j ↦ absurd (List·Memᴰ·not-nil j) ])
+      (λ n i. elim (List·Memᴰ·cases-cons i) [ inl e ↦ (cc, cc, cc, n) | inr j ↦ absurd (List·Memᴰ·not-nil j) ])
       m
 
-  noted-accepts : (r x : List ℕ) → List·Memᴰ (answered r x) (serverEvents q (after .out .answered) (after .answer))
+  noted-accepts : (H K : ℕ) (r x : List ℕ) → List·Memᴰ (answered H r x) (serverEvents K q (after .out .answered) (after .answer))
       → requestKind r ≡ 5 → answerCode x ≡ 0 → (r ≡ q) × (after .out .code ≡ 0)
   unfolding refusedSetup
-  noted-accepts r x m k e =
-      let n = noted r x m in
+  noted-accepts H K r x m k e =
+      let n = noted H K r x m in
       cases-eq (firstCode (serverSetupChecks s h store used buffer)) 0
       (λ z. (n .0, answer-accepts z (rw (n .0) at k) (rw (n .1) at e)))
-      (λ i. absurd (n .2 (rw (served-refused s h store used q buffer _ refl i))))
+      (λ i. absurd (n .3 (rw (served-refused s h store used q buffer _ refl i))))
 
   -- a head at p or past it stays so, and at p it keeps its digest
   past-stays : (p : ℕ) (δ : List ℕ) → length (h .digest) ≡ 32 → Past p δ h → Past p δ (after .out .head)
@@ -125,66 +126,64 @@ module _ (s : Settings) (h : Head) (store : List ℕ) (used : ℕ) (q buffer : L
         stay = λ e. one-digest-a-position s h store used q buffer w (omega arith) .1 ∙ k .stay (omega arith);
       }
 
--- H accepted the Reserve q
-abbrev pub Accepted : World → List ℕ → Type 0
-Accepted w q = (x : List ℕ) × List·Memᴰ (answered q x) (w .log) × (requestKind q ≡ 5) × (answerCode x ≡ 0)
+-- server number H accepted the Reserve q
+abbrev pub Accepted : ℕ → List Event → List ℕ → Type 0
+Accepted H log q = (x : List ℕ) × List·Memᴰ (answered H q x) log × (requestKind q ≡ 5) × (answerCode x ≡ 0)
 
--- H's head is past every Reserve that it accepted, and for one position they have one digest
-pub record Logged (w : World) : Type 0 where
-  pub whole : length (w .server .head .digest) ≡ 32
-  pub past : (q : List ℕ) → Accepted w q → Past (requestPosition q) (requestBody q) (w .server .head)
-  pub same : (q r : List ℕ) → Accepted w q → Accepted w r → requestPosition q ≡ requestPosition r → requestBody q ≡ requestBody r
+-- its head is past every Reserve that it accepted, and for one position they have one digest
+pub record Logged (H : ℕ) (h : Head) (log : List Event) : Type 0 where
+  pub whole : length (h .digest) ≡ 32
+  pub past : (q : List ℕ) → Accepted H log q → Past (requestPosition q) (requestBody q) h
+  pub same : (q r : List ℕ) → Accepted H log q → Accepted H log r → requestPosition q ≡ requestPosition r → requestBody q ≡ requestBody r
 
--- steps of users: H's head stays, and no answer of H's is new
-pub logged-later : (w x : World) → x .server .head ≡ w .server .head → ((q a : List ℕ) → List·Memᴰ (answered q a) (x .log) → List·Memᴰ (answered q a) (w .log))
-    → Logged w → Logged x
-logged-later w x e old k =
-    record {
-      whole = rw e (k .whole);
-      past = λ q y. rw e (k .past q (before q y));
-      same = λ q r y z. k .same q r (before q y) (before r z);
-    }
+-- steps of users and of other servers: the head stays, and no answer of H's is new
+pub logged-later : (H : ℕ) (h : Head) (es log : List Event) → ((q a : List ℕ) → List·Memᴰ (answered H q a) es → ⊥) → Logged H h log
+    → Logged H h (es ++ log)
+logged-later H h es log none k =
+    record { whole = k .whole; past = λ q y. k .past q (before q y); same = λ q r y z. k .same q r (before q y) (before r z) }
   where
-    before : (q : List ℕ) → Accepted x q → Accepted w q
-    before q y = (y .0, old q (y .0) (y .1), y .2, y .3)
+    before : (q : List ℕ) → Accepted H (es ++ log) q → Accepted H log q
+    before q y = (y .0, elim (List·Memᴰ·append-cases es (y .1)) [ inl m ↦ absurd (none q (y .0) m) | inr m ↦ m ], y .2, y .3)
 
-pub logged-server : (w : World) (s : Settings) (q buffer : List ℕ) → Logged w → Logged (withServer w q (served s (w .server .head) (w .server .store) (w .server .used) q buffer))
-unfolding withServer serverAfter
-logged-server w s q buffer k =
+-- a call of H
+module _ (H : ℕ) (h : Head) (log : List Event) (s : Settings) (store : List ℕ) (used : ℕ) (q buffer : List ℕ) (k : Logged H h log) where
+  abbrev pub call : ServeOutcome
+  call = served s h store used q buffer
+
+  abbrev pub longer : List Event
+  longer = serverEvents H q (call .out .answered) (call .answer) ++ log
+
+  -- an accepted Reserve is the head now, or was accepted before
+  split : (r : List ℕ) → Accepted H longer r
+      → ((call .out .head .position ≡ requestPosition r) × (call .out .head .digest ≡ requestBody r)) ⊎ Accepted H log r
+  split r y = elim (List·Memᴰ·append-cases (serverEvents H q (call .out .answered) (call .answer)) (y .1)) [
+    | inl m ↦ (let n = noted-accepts s h store used q buffer H H r (y .0) m (y .2) (y .3) in
+        inl (rw (n .0) (reserved-head s h store used q buffer (n .1) (rw (n .0) at (y .2)))))
+    | inr m ↦ inr (y .0, m, y .2, y .3)
+  ]
+
+  now-past : (r : List ℕ) → Accepted H longer r → Past (requestPosition r) (requestBody r) (call .out .head)
+  now-past r y = elim (split r y) [
+    | inl m ↦ record { up = omega (arith, m .0); stay = λ _. m .1 }
+    | inr m ↦ past-stays s h store used q buffer (requestPosition r) (requestBody r) (k .whole) (k .past r m)
+  ]
+
+  pub logged-server : Logged H (call .out .head) longer
+  logged-server =
+      record {
+        whole = digest-stays-whole s h store used q buffer (k .whole);
+        past = now-past;
+        same = λ r t y z e. elim (split r y) [
+          | inl m ↦ sym (m .1) ∙ now-past t z .stay (m .0 ∙ e)
+          | inr m ↦ elim (split t z) [ inl n ↦ sym (now-past r y .stay (n .0 ∙ sym e)) ∙ n .1 | inr n ↦ k .same r t m n e ]
+        ];
+      }
+
+pub logged-first : (H : ℕ) (b : NewServer) → Logged H (newHead b) []
+unfolding newHead
+logged-first H b =
     record {
-      whole = digest-stays-whole s (w .server .head) (w .server .store) (w .server .used) q buffer (k .whole);
-      past = past;
-      same = λ r t y z e. elim (split r y) [
-        | inl m ↦ sym (m .1) ∙ past t z .stay (m .0 ∙ e)
-        | inr m ↦ elim (split t z) [ inl n ↦ sym (past r y .stay (n .0 ∙ sym e)) ∙ n .1 | inr n ↦ k .same r t m n e ]
-      ];
-    }
-  where
-    call : ServeOutcome
-    call = served s (w .server .head) (w .server .store) (w .server .used) q buffer
-
-    next : World
-    next = withServer w q call
-
-    -- an accepted Reserve is the head now, or was accepted before
-    split : (r : List ℕ) → Accepted next r → ((next .server .head .position ≡ requestPosition r) × (next .server .head .digest ≡ requestBody r)) ⊎ Accepted w r
-    split r y = elim (List·Memᴰ·append-cases (serverEvents q (call .out .answered) (call .answer)) (y .1)) [
-      | inl m ↦ (let n = noted-accepts s (w .server .head) (w .server .store) (w .server .used) q buffer r (y .0) m (y .2) (y .3) in
-          inl (rw (n .0) (reserved-head s (w .server .head) (w .server .store) (w .server .used) q buffer (n .1) (rw (n .0) at (y .2)))))
-      | inr m ↦ inr (y .0, m, y .2, y .3)
-    ]
-
-    past : (r : List ℕ) → Accepted next r → Past (requestPosition r) (requestBody r) (next .server .head)
-    past r y = elim (split r y) [
-      | inl m ↦ record { up = omega (arith, m .0); stay = λ _. m .1 }
-      | inr m ↦ past-stays s (w .server .head) (w .server .store) (w .server .used) q buffer (requestPosition r) (requestBody r) (k .whole) (k .past r m)
-    ]
-
-pub logged-first : (g : Setup) (b : NewWorld) → Logged (newWorld g b)
-unfolding newWorld newServer newHead
-logged-first g b =
-    record {
-      whole = b .servers (g .follows) .digest-size;
+      whole = b .digest-size;
       past = λ q y. absurd (List·Memᴰ·not-nil (y .1));
       same = λ q r y z e. absurd (List·Memᴰ·not-nil (y .1));
     }
@@ -210,11 +209,11 @@ module _ (log : List ℕ) (named : length log ≡ 16) (a p l : ℕ) (δ : List �
       )
 
 -- Two Reserves of one position that H answered with code 0 have the same digest.
-pub one-digest-at-H : (log : List ℕ) → length log ≡ 16 → (w : World) → Logged w → (a b p l m : ℕ) (δ ε x y : List ℕ)
-    → List·Memᴰ (answered (request 5 log a p l δ) x) (w .log) → answerCode x ≡ 0
-    → List·Memᴰ (answered (request 5 log b p m ε) y) (w .log) → answerCode y ≡ 0
+pub one-digest-at-H : (log : List ℕ) → length log ≡ 16 → (H : ℕ) (h : Head) (es : List Event) → Logged H h es → (a b p l m : ℕ) (δ ε x y : List ℕ)
+    → List·Memᴰ (answered H (request 5 log a p l δ) x) es → answerCode x ≡ 0
+    → List·Memᴰ (answered H (request 5 log b p m ε) y) es → answerCode y ≡ 0
     → δ ≡ ε
-one-digest-at-H log named w k a b p l m δ ε x y i c j d =
+one-digest-at-H log named H h es k a b p l m δ ε x y i c j d =
     let q = reserve-read log named a p l δ in
     let r = reserve-read log named b p m ε in
     sym (q .2) ∙ k .same _ _ (x, i, q .0, c) (y, j, r .0, d) (q .1 ∙ sym (r .1)) ∙ r .2

@@ -57,7 +57,7 @@ module _ (W : Whole) where
 
   -- H accepted this Reserve of user a
   abbrev pub Took : ℕ → ℕ → ℕ → List ℕ → Type 0
-  Took a p l δ = (x : List ℕ) × List·Memᴰ (answered (request 5 log a p l δ) x) (W .world .log) × (answerCode x ≡ 0)
+  Took a p l δ = (x : List ℕ) × List·Memᴰ (answered H (request 5 log a p l δ) x) (W .world .log) × (answerCode x ≡ 0)
 
   -- H accepted every Reserve of p that is its own to accept
   pub record Reserved (a p : ℕ) (δ : List ℕ) : Type 0 where

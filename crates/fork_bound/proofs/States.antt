@@ -20,7 +20,7 @@ use Rattle.user_write.specs.declared.call.Write.{Write}
 use Rattle.user_write.specs.Write.{commitNumber, pathDigest}
 use Rattle.user_read.specs.Read.{textAuthor, textEntry}
 use Rattle.user_calls.specs.Calls.{Call, idle, updating, writing, reading}
-use Rattle.whole_run.specs.World.{Event, hashed, signed, accepted, answered, Sent, Reading, User}
+use Rattle.whole_run.specs.World.{Event, hashed, signed, accepted, handedOut, answered, Sent, Reading, User}
 use Rattle.fork_bound.proofs.Noted.{Whole, Hashed}
 use Rattle.fork_bound.proofs.Histories.{Signs, SignedAt, Took, Reserved, Established, Link, Signed, Known, established-shorter, established-longer, established-agree, extend, extend-old}
 
@@ -86,7 +86,7 @@ openDigest σ = pathDigest (openPosition σ) (σ .path)
 
 -- an answer to the request x is H's if the request went to H
 abbrev pub FromH : Whole → Sent → List ℕ → Type 0
-FromH W x a = x .server ≡ W .group .follows → List·Memᴰ (answered (x .bytes) a) (W .world .log)
+FromH W x a = x .server ≡ W .group .follows → List·Memᴰ (answered (W .group .follows) (x .bytes) a) (W .world .log)
 
 -- user number own
 module _ (W : Whole) (own : ℕ) where
@@ -136,9 +136,10 @@ module _ (W : Whole) (own : ℕ) where
     pub state : StateOk (u .state) (u .reads)
     pub call : CallOk (u .state) (u .sent) (u .call)
 
--- What stands behind an event that a user's step notes: behind a signature a history. H's answers are not a user's events.
+-- What stands behind an event that a user's step notes: behind a signature a history. A server's answers are not a user's events.
 abbrev pub Behind : Whole → Event → Type 0
 Behind W (hashed t) = Unit {0}
 Behind W (signed a t) = Signed W a t
 Behind W (accepted a t) = Unit {0}
-Behind W (answered q x) = ⊥
+Behind W (handedOut a s q) = Unit {0}
+Behind W (answered s q x) = ⊥

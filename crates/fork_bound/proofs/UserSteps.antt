@@ -22,10 +22,10 @@ use Rattle.user_read.specs.declared.call.Read.{Read}
 use Rattle.user_read.specs.Read.{readOver}
 use Rattle.user.proofs.Passed.{setup-passed, by-cond}
 use Rattle.user_calls.specs.Calls.{Call, idle, updating, writing, reading, Input, startUpdate, startWrite, startRead, answer, strayCode, taken, stepped}
-use Rattle.whole_run.specs.World.{settingsFor, hashed, User, after, coverStrings, recordAccepted, updateEvents, openingHashed, writeSigned, writeEvents, readEvents, answerEvents, acceptedEvents, eventsOf, userStep}
+use Rattle.whole_run.specs.World.{settingsFor, hashed, User, after, coverStrings, recordAccepted, updateEvents, openingHashed, writeSigned, writeEvents, readEvents, answerEvents, acceptedEvents, handedEvents, eventsOf, userStep}
 use Rattle.whole_run.specs.Runs.{FairInput}
 use Rattle.whole_run.proofs.Refusals.{refused-step, accepted-step}
-use Rattle.fork_bound.proofs.Noted.{Whole, Within, Every, every-none, every-cons, every-append, every-cond, every-hashed}
+use Rattle.fork_bound.proofs.Noted.{Whole, Within, within-right, Every, every-none, every-cons, every-append, every-cond, every-hashed}
 use Rattle.fork_bound.proofs.Histories.{Signed}
 use Rattle.fork_bound.proofs.States.{FromH, CallOk, UserOk, Behind}
 use Rattle.fork_bound.proofs.UpdateSteps.{update-taken-ok, update-started-ok}
@@ -99,7 +99,10 @@ module _ (W : Whole) (own : ℕ) (u : User) (ok : UserOk W own u) where
   unfolding userStep eventsOf
   step-ok i fair f =
       cases-eq (userStep s u i .step .code) 0
-      (λ z. subst (UserOk W own) (sym (accepted-step s u i z)) (accepted-ok i fair z (rw (eq-eqb (userStep s u i .step .code) 0 z) at f)))
+      (λ z.
+      let o = stepped s (u .state) (u .lent) (u .call) i in
+      let noted = within-right W (handedEvents own (o .step) (o .lent .request)) (acceptedEvents s u i) (rw (eq-eqb (o .step .code) 0 z) at f) in
+      subst (UserOk W own) (sym (accepted-step s u i z)) (accepted-ok i fair z noted))
       (λ n. subst (UserOk W own) (sym (refused-step s u i n)) ok)
 
   -- what is noted of it
@@ -123,8 +126,13 @@ module _ (W : Whole) (own : ℕ) (u : User) (ok : UserOk W own u) where
   accepted-behind (startRead m i) fair z = every-none (Behind W)
   accepted-behind (answer a) fair z = answer-behind a (u .call) (ok .call) fair z
 
+  handed-behind : (o : Outcome Call) → Every (Behind W) (handedEvents own (o .step) (o .lent .request))
+  unfolding handedEvents
+  handed-behind o = every-cond (Behind W) (o .step .ended) [] _ (λ _. every-none (Behind W)) (λ _. every-cons (Behind W) _ [] tt (every-none (Behind W)))
+
   pub step-behind : (i : Input) → FairInput (W .group) (W .world .log) u i → Every (Behind W) (userStep s u i .events)
   unfolding userStep eventsOf
   step-behind i fair =
       every-cond (Behind W) (eqb (stepped s (u .state) (u .lent) (u .call) i .step .code) 0) _ []
-      (λ z. accepted-behind i fair (eqb-true _ 0 z)) (λ _. every-none (Behind W))
+      (λ z. every-append (Behind W) _ (acceptedEvents s u i) (handed-behind (stepped s (u .state) (u .lent) (u .call) i)) (accepted-behind i fair (eqb-true _ 0 z)))
+      (λ _. every-none (Behind W))

@@ -67,21 +67,22 @@ abbrev asks-server-1 : List Ru.Step
 asks-server-1 = Ru.user 1 (Ca.startWrite memory (1 ∷ 65 ∷ []) (replicate 32 0)) ∷ []
 
 abbrev server-1-answers : List Ru.Step
-server-1-answers = Ru.server (out asks-server-1) (replicate 2552 0) ∷ asks-server-1
+server-1-answers = Ru.server 1 (out asks-server-1) (replicate 2552 0) ∷ asks-server-1
 
 abbrev reserves : List Ru.Step
 reserves = Ru.user 1 (Ca.answer (fresh 2)) ∷ Ru.user 1 (Ca.answer (fresh 1)) ∷ server-1-answers
 
 abbrev server-1-reserves : List Ru.Step
-server-1-reserves = Ru.server (out reserves) (replicate 2552 0) ∷ reserves
+server-1-reserves = Ru.server 1 (out reserves) (replicate 2552 0) ∷ reserves
 
 abbrev puts : List Ru.Step
 puts = Ru.user 1 (Ca.answer reserved) ∷ server-1-reserves
 
--- Server 1 answers the Status of the empty log; user 1, whose Update ends at p* = 0, hands out the first Reserve; server 1 accepts it, and
+-- User 1 asks server 1 for its Status, of the empty log, and server 1 answers; user 1, whose Update ends at p* = 0, hands out the first Reserve; server 1 accepts it, and
 -- user 1 goes on with the PutOperation.
-write-begins : (Ru.run group zeros-first server-1-answers .log ≡ Wo.answered (out asks-server-1) (fresh 1) ∷ [])
-    × (Me.requestKind (out reserves) ≡ 5) × (Ru.run group zeros-first server-1-reserves .server .head .position ≡ 1)
+write-begins : (Ru.run group zeros-first server-1-answers .log
+    ≡ Wo.answered 1 (out asks-server-1) (fresh 1) ∷ Wo.handedOut 1 1 (out asks-server-1) ∷ [])
+    × (Me.requestKind (out reserves) ≡ 5) × (Ru.run group zeros-first server-1-reserves .servers 1 .head .position ≡ 1)
     × (Me.requestKind (out puts) ≡ 6)
-unfolding Le.leastFrom Le.reaches Le.lg Le.isFull Le.highestFull La.nodesTo La.label La.serverOf La.owner Ex.entryText Ex.leafString Ex.pairString Ex.halfString Ex.value Tr.tree Tr.blockOf Tr.node Co.fits Co.tileLevel Co.tilesIn Co.tiles Co.peaks Co.cover Co.piece Co.cut Co.covers Co.nodesBefore Co.fromCover Co.coverDigest Co.coverPath Co.pathBytes Co.pathWritten Me.requestHeader Me.request Me.answerHeader Me.answer Me.recordHeader Me.stored Me.signedText Se.userCount Se.userKey Se.listed Se.groupFits Se.inLog Se.firstCode By.be By.numberAt By.written By.eqs As.userSettingsFit As.keptFits As.userSetupChecks As.requestRoom As.ofNode As.ofStatus As.asks As.headed As.answerBodyFits As.isAnswer As.answerChecks As.refused As.done As.asking Ou.nothing Up.freshUpdate Up.updateAnswers Up.updateEnded Up.updateWant Up.toldPosition Up.toldLevel Up.toldLabel Up.headHolds Up.statusTaken Up.updateNext Up.updateHashes Up.recordHolds Up.coverGivesOwn Up.coverGivesNew Up.updateChecks Up.arrived Up.updateGoes Up.updateSetup Up.updateStarted Up.updateEarly Up.updateTaken En.strikes En.isSchedule En.entryFits Fi.rulesKept Wr.targetFits Wr.ownLeaf Wr.commitNumber Wr.writeKind Wr.writeLevel Wr.writeWant Wr.pathDigest Wr.writeBody Wr.heldEntry Wr.writeAsks Wr.writeWaits Wr.writeRoom Wr.writeStartChecks Wr.freshWrite Wr.writeStarted Wr.openingChecks Wr.opening Wr.writeOpens Wr.writeUpdates Wr.signsNext Wr.writeChecks Wr.commitSignature Wr.writeSignature Wr.goesOn Wr.signing Wr.committed Wr.writeGoes Wr.writeTaken Sh.levelFits Sh.nodeFits Sh.requestBodyFits Sh.kindFits Sh.requestFits Sh.recordFits St.recordLength St.recordsIn St.records St.sizes St.whole St.isFor St.first St.isStored Ch.serverSettingsFit Ch.headFits Ch.storeFits Ch.ownsNode Ch.reservable Ch.holdsHead Ch.commitHolds Ch.recordAsked Ch.recordFound Ch.noOther Ch.roomLeft Ch.nodeSource Ch.pullSource Ch.kindChecks Ch.serverSetupChecks Ch.checksOver Ch.requestChecks Sv.headAfter Sv.appends Sv.storeAfter Sv.usedAfter Sv.nodeHash Sv.recordGiven Sv.bodyGiven Sv.headerGiven Sv.answerGiven Sv.refusedSetup Sv.served Wo.sentBy Wo.returned Wo.viewSent Wo.viewAfter Wo.newReads Wo.after Wo.coverStrings Wo.recordAccepted Wo.updateEvents Wo.openingHashed Wo.writeSigned Wo.writeEvents Wo.readEvents Wo.answerEvents Wo.acceptedEvents Wo.eventsOf Wo.userStep Ca.strayCode Ca.taken Ca.stepped Ru.newUser Ru.newHead Ru.newServer Ru.newWorld Ru.serverAfter Ru.withUser Ru.serverEvents Ru.withServer Ru.step Ru.run ¬32 SHL SHR ROTR Ch Maj Σ0 Σ1 σ0 σ1 K H0 nextW schedule T1 T2 round rounds sums compress zeros padding pad words block hashValue bytes sha256
+unfolding Le.leastFrom Le.reaches Le.lg Le.isFull Le.highestFull La.nodesTo La.label La.serverOf La.owner Ex.entryText Ex.leafString Ex.pairString Ex.halfString Ex.value Tr.tree Tr.blockOf Tr.node Co.fits Co.tileLevel Co.tilesIn Co.tiles Co.peaks Co.cover Co.piece Co.cut Co.covers Co.nodesBefore Co.fromCover Co.coverDigest Co.coverPath Co.pathBytes Co.pathWritten Me.requestHeader Me.request Me.answerHeader Me.answer Me.recordHeader Me.stored Me.signedText Se.userCount Se.userKey Se.listed Se.groupFits Se.inLog Se.firstCode By.be By.numberAt By.written By.eqs As.userSettingsFit As.keptFits As.userSetupChecks As.requestRoom As.ofNode As.ofStatus As.asks As.headed As.answerBodyFits As.isAnswer As.answerChecks As.refused As.done As.asking Ou.nothing Up.freshUpdate Up.updateAnswers Up.updateEnded Up.updateWant Up.toldPosition Up.toldLevel Up.toldLabel Up.headHolds Up.statusTaken Up.updateNext Up.updateHashes Up.recordHolds Up.coverGivesOwn Up.coverGivesNew Up.updateChecks Up.arrived Up.updateGoes Up.updateSetup Up.updateStarted Up.updateEarly Up.updateTaken En.strikes En.isSchedule En.entryFits Fi.rulesKept Wr.targetFits Wr.ownLeaf Wr.commitNumber Wr.writeKind Wr.writeLevel Wr.writeWant Wr.pathDigest Wr.writeBody Wr.heldEntry Wr.writeAsks Wr.writeWaits Wr.writeRoom Wr.writeStartChecks Wr.freshWrite Wr.writeStarted Wr.openingChecks Wr.opening Wr.writeOpens Wr.writeUpdates Wr.signsNext Wr.writeChecks Wr.commitSignature Wr.writeSignature Wr.goesOn Wr.signing Wr.committed Wr.writeGoes Wr.writeTaken Sh.levelFits Sh.nodeFits Sh.requestBodyFits Sh.kindFits Sh.requestFits Sh.recordFits St.recordLength St.recordsIn St.records St.sizes St.whole St.isFor St.first St.isStored Ch.serverSettingsFit Ch.headFits Ch.storeFits Ch.ownsNode Ch.reservable Ch.holdsHead Ch.commitHolds Ch.recordAsked Ch.recordFound Ch.noOther Ch.roomLeft Ch.nodeSource Ch.pullSource Ch.kindChecks Ch.serverSetupChecks Ch.checksOver Ch.requestChecks Sv.headAfter Sv.appends Sv.storeAfter Sv.usedAfter Sv.nodeHash Sv.recordGiven Sv.bodyGiven Sv.headerGiven Sv.answerGiven Sv.refusedSetup Sv.served Wo.sentBy Wo.returned Wo.viewSent Wo.viewAfter Wo.newReads Wo.after Wo.coverStrings Wo.recordAccepted Wo.updateEvents Wo.openingHashed Wo.writeSigned Wo.writeEvents Wo.readEvents Wo.answerEvents Wo.acceptedEvents Wo.handedEvents Wo.eventsOf Wo.userStep Ca.strayCode Ca.taken Ca.stepped Ru.newUser Ru.newHead Ru.newServer Ru.newWorld Ru.serverAfter Ru.withUser Ru.serverEvents Ru.withServer Ru.step Ru.run ¬32 SHL SHR ROTR Ch Maj Σ0 Σ1 σ0 σ1 K H0 nextW schedule T1 T2 round rounds sums compress zeros padding pad words block hashValue bytes sha256
 write-begins = (refl, refl, refl, refl)
