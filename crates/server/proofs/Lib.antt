@@ -13,4 +13,5 @@ pub mod After
 pub mod PullTheorems
 pub mod OtherPulls
 pub mod Repeats
+pub mod GiveUps
 pub mod Sizes
