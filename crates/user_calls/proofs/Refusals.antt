@@ -5,7 +5,7 @@ use mathlib.Core.List.{List, []}
 use Prim.Native.Nat.{ℕ}
 use Rattle.tree.specs.Setup.{Settings, firstCode}
 use Rattle.tree.proofs.Cases.{by-bool}
-use Rattle.user.specs.Asking.{userSettingsFit, userSetupChecks, refused}
+use Rattle.user.specs.Asking.{userSettingsFit, userFits, userSetupChecks, refused}
 use Rattle.user.specs.Outcome.{State, Lent, Outcome, refusal}
 use Rattle.user_update.specs.declared.call.Update.{Update}
 use Rattle.user_update.specs.Update.{noUpdate, updateSetup, updateEarly, updateStarted, updateTaken}
@@ -13,16 +13,20 @@ use Rattle.user_write.specs.declared.call.Write.{Write}
 use Rattle.user_write.specs.Write.{noWrite, writeStartChecks, writeChecks, writeWaits, writeStarted, writeUpdates, writeGoes, writeTaken}
 use Rattle.user_read.specs.declared.call.Read.{Read}
 use Rattle.user_read.specs.Read.{noRead, readChecks, readEarly, readStarted, readTaken}
+use Rattle.user_give_up.specs.declared.call.GiveUp.{GiveUp}
+use Rattle.user_give_up.specs.GiveUp.{noGiveUp, giveUpSetup, giveUpChecks, giveUpStarted, giveUpTaken}
 use Rattle.user_update.proofs.UpdateAnswers.{update-start-refusal, update-refusal}
 use Rattle.user_write.proofs.WriteAnswers.{write-start-refusal, write-refusal}
 use Rattle.user_read.proofs.ReadAnswers.{read-start-refusal, read-refusal}
-use Rattle.user_calls.specs.Calls.{Call, idle, updating, writing, reading, Input, startUpdate, startWrite, startRead, answer, asCall, strayCode, taken, stepped}
+use Rattle.user_give_up.proofs.GiveUpAnswers.{give-up-start-refusal, give-up-refusal}
+use Rattle.user_calls.specs.Calls.{Call, idle, updating, writing, reading, givingUp, Input, startUpdate, startWrite, startRead, startGiveUp, answer, asCall, strayCode, taken, stepped}
 
 -- What a refused step leaves. A start that is refused hands back a call that takes no answer.
 abbrev pub refusedStep : ℕ → State → Lent → Call → Input → Outcome Call
 refusedStep code σ m c (startUpdate l) = refusal code [] σ l (updating noUpdate)
 refusedStep code σ m c (startWrite l entry randomizer) = refusal code [] σ l (writing noWrite)
 refusedStep code σ m c (startRead l i) = refusal code [] σ l (reading (noRead i))
+refusedStep code σ m c (startGiveUp l) = refusal code [] σ l (givingUp noGiveUp)
 refusedStep code σ m c (answer a) = refusal code a σ m c
 
 pub step-refusal : (s : Settings) (σ : State) (m : Lent) (c : Call) (i : Input) → (stepped s σ m c i .step .code ≡ 0 → ⊥)
@@ -32,38 +36,43 @@ step-refusal s σ m c (startUpdate l) n = ap (λ (o : Outcome Update). asCall up
 step-refusal s σ m c (startWrite l entry randomizer) n =
     ap (λ (o : Outcome Write). asCall writing o) (write-start-refusal s σ l entry randomizer n)
 step-refusal s σ m c (startRead l i) n = ap (λ (o : Outcome Read). asCall reading o) (read-start-refusal s σ l i n)
+step-refusal s σ m c (startGiveUp l) n = ap (λ (o : Outcome GiveUp). asCall givingUp o) (give-up-start-refusal s σ l n)
 step-refusal s σ m idle (answer a) n = refl
 step-refusal s σ m (updating u) (answer a) n = ap (λ (o : Outcome Update). asCall updating o) (update-refusal s σ m u a n)
 step-refusal s σ m (writing w) (answer a) n = ap (λ (o : Outcome Write). asCall writing o) (write-refusal s σ m w a n)
 step-refusal s σ m (reading r) (answer a) n = ap (λ (o : Outcome Read). asCall reading o) (read-refusal s σ m r a n)
+step-refusal s σ m (givingUp g) (answer a) n = ap (λ (o : Outcome GiveUp). asCall givingUp o) (give-up-refusal s σ m g a n)
 
 -- Whichever step it is, what is kept stays.
 pub refused-state : (code : ℕ) (σ : State) (m : Lent) (c : Call) (i : Input) → refusedStep code σ m c i .state ≡ σ
 refused-state code σ m c (startUpdate l) = refl
 refused-state code σ m c (startWrite l entry randomizer) = refl
 refused-state code σ m c (startRead l i) = refl
+refused-state code σ m c (startGiveUp l) = refl
 refused-state code σ m c (answer a) = refl
 
 -- 22 comes before all else: settings out of their ranges refuse every step.
 update-unfit : (s : Settings) (σ : State) (m : Lent) (u : Update) (a : List ℕ) → userSettingsFit s ≡ false
     → updateTaken s σ m u a ≡ refusal 22 a σ m u
-unfolding updateTaken updateEarly updateSetup userSetupChecks firstCode
+unfolding updateTaken updateEarly updateSetup userSetupChecks userFits firstCode
 update-unfit s σ m u a e = rw e
 
 write-unfit : (s : Settings) (σ : State) (m : Lent) (w : Write) (a : List ℕ) → userSettingsFit s ≡ false
     → writeTaken s σ m w a ≡ refusal 22 a σ m w
-unfolding writeTaken writeGoes writeUpdates writeWaits writeChecks userSetupChecks firstCode refused
+unfolding writeTaken writeGoes writeUpdates writeWaits writeChecks userSetupChecks userFits firstCode refused
 write-unfit s σ m w a e =
     by-bool (λ b. cond b (writeGoes s σ m w a) (writeUpdates s σ m w a) ≡ refusal 22 a σ m w) (w .opened) (λ _. rw e)
     (λ _. rw (update-unfit s σ m (w .update) a e))
 
 pub step-unfit : (s : Settings) (σ : State) (m : Lent) (c : Call) (i : Input) → userSettingsFit s ≡ false
     → stepped s σ m c i ≡ refusedStep 22 σ m c i
-unfolding stepped taken strayCode updateStarted updateSetup writeStarted writeStartChecks readStarted readTaken readEarly readChecks userSetupChecks firstCode
+unfolding stepped taken strayCode updateStarted updateSetup writeStarted writeStartChecks readStarted readTaken readEarly readChecks giveUpStarted giveUpTaken giveUpChecks giveUpSetup userSetupChecks userFits firstCode
 step-unfit s σ m c (startUpdate l) e = rw e
 step-unfit s σ m c (startWrite l entry randomizer) e = rw e
 step-unfit s σ m c (startRead l i) e = rw e
+step-unfit s σ m c (startGiveUp l) e = rw e
 step-unfit s σ m idle (answer a) e = rw e
 step-unfit s σ m (updating u) (answer a) e = rw (update-unfit s σ m u a e)
 step-unfit s σ m (writing w) (answer a) e = rw (write-unfit s σ m w a e)
 step-unfit s σ m (reading r) (answer a) e = rw e
+step-unfit s σ m (givingUp g) (answer a) e = rw e

@@ -1,4 +1,5 @@
--- What no step of an Update and none of a Write changes; only a Read finds something.
+-- What no step of an Update and none of a Write changes; only a Read finds something. What no step of a give-up changes stands with its
+-- counts, in user_give_up's GiveUpAnswers.
 use mathlib.Core.Path.{_≡_, refl}
 use mathlib.Core.Bool.{cond}
 use mathlib.Core.List.{List, []}
@@ -7,7 +8,7 @@ use lib.Dec.{eqb}
 use Rattle.tree.specs.Bytes.{written}
 use Rattle.tree.specs.Setup.{Settings, firstCode}
 use Rattle.tree.proofs.Cases.{by-bool}
-use Rattle.user.specs.Outcome.{State, Lent, withHashes, withHeld, Outcome, nothing, refusal}
+use Rattle.user.specs.Outcome.{State, Lent, withHeld, Outcome, nothing, refusal}
 use Rattle.user_update.specs.declared.call.Update.{Update}
 use Rattle.user_update.specs.Update.{freshUpdate, noUpdate, updateSetup, updateGoes, updateStarted, updateTaken}
 use Rattle.user_write.specs.declared.call.Write.{Write}
