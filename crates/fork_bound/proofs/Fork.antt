@@ -1,21 +1,25 @@
 -- The claim: views of two users that read d differently end within Q(d, N) operations of d.
 use mathlib.Core.Path.{_≡_, ap, sym, _∙_}
 use mathlib.Core.List.{List}
-use Prim.Native.Nat.{ℕ, _+_, _-_, _≤_, _<_, min}
+use Prim.Native.Nat.{ℕ, suc, _+_, _-_, _≤_, _<_, min}
 use native.Mathlib.Omega.{arith}
 use lib.ListN.{length}
 use Rattle.tree.specs.Expr.{NoCollision}
 use Rattle.tree.specs.Label.{owner, wait}
 use Rattle.tree.specs.Level.{lg}
+use Rattle.tree.specs.Message.{signedText}
 use Rattle.tree.proofs.Cases.{cases-le}
+use Rattle.tree.proofs.Messages.{text-position, text-digest}
 use Rattle.tree.proofs.Labels.{every-server-owns-a-node}
 use Rattle.user_read.specs.Read.{textAuthor, textEntry}
 use Rattle.whole_run.specs.World.{Setup}
-use Rattle.whole_run.specs.Runs.{NewWorld, World, Step, run, Fair}
+use Rattle.whole_run.specs.Runs.{NewWorld, World, Step, run}
+use Rattle.fork_bound.specs.Fair.{Fair}
 use Rattle.fork_bound.specs.Claim.{NoneCollide, NoneForged, HasRead, Differ, Bounded, BoundHolds, ForkBound, ViewIsVersion}
 use Rattle.fork_bound.proofs.Noted.{Whole, Hashed}
-use Rattle.fork_bound.proofs.Histories.{Knows, Known, established-agree, all-known}
+use Rattle.fork_bound.proofs.Histories.{SignedBy, Knows, Known, established-agree, all-known}
 use Rattle.fork_bound.proofs.States.{ReadOk}
+use Rattle.fork_bound.proofs.Taken.{Took, TookBelow}
 use Rattle.fork_bound.proofs.Steps.{Holds, all-hold}
 use Rattle.fork_bound.proofs.Heads.{one-digest-at-H}
 
@@ -40,15 +44,28 @@ module _ (g : Setup) (named : length (g .log) ≡ 16) (start : NewWorld) (xs : L
     history : (a : ℕ) → 0 < w .users a .state .kept .version → History a
     history a z = let s = holds .users a .state in known .history _ _ z (s .small) (s .kept z)
 
+    -- what was signed was reserved at H, and nobody gave it up
+    reserved-at-H : (a k : ℕ) (δ : List ℕ) → SignedBy whole a k δ → (l : ℕ) → l ≤ lg k → owner (g .servers) k l ≡ g .follows → Took g (w .log) a k l δ
+    reserved-at-H a k δ x l within o =
+        let f = holds .guards a .signs (signedText (g .log) k δ) (x .signs) in
+        let small = x .within in
+        let also = f .small in
+        let p = text-position (g .log) (g .log) k (f .p) δ (f .δ) named named (omega arith) (omega arith) (f .is) in
+        let d = text-digest (g .log) (g .log) k (f .p) δ (f .δ) named named (omega arith) (omega arith) (f .is) in
+        same-text (f .p) (f .δ) p d (f .took) l (omega arith) within o
+      where
+        same-text : (p : ℕ) (ε : List ℕ) → k ≡ p → δ ≡ ε → TookBelow g (w .log) a p ε (suc (lg p)) → TookBelow g (w .log) a k δ (suc (lg k))
+        same-text p ε e d t = rw (e, d) t
+
     -- Where two views reach a position of whose path H owns a node, they agree up to it.
     pub views-agree : (a b k l : ℕ) → 0 < k → k ≤ w .users a .state .kept .version → k ≤ w .users b .state .kept .version → l ≤ lg k
         → owner (g .servers) k l ≡ g .follows → (f : History a) (h : History b) (i : ℕ) → i < k → f .0 i ≡ h .0 i
     views-agree a b k l z ka kb lk o f h =
-        let p = f .1 .reserves k z ka in
-        let q = h .1 .reserves k z kb in
-        let x = p .1 .took l lk o in
-        let y = q .1 .took l lk o in
-        let e = one-digest-at-H (g .log) named (g .follows) _ (w .log) (holds .head) (p .0) (q .0) k l l _ _ (x .0) (y .0) (x .1) (x .2) (y .1) (y .2) in
+        let p = f .1 .signers k z ka in
+        let q = h .1 .signers k z kb in
+        let x = reserved-at-H (p .0) k _ (p .1) l lk o in
+        let y = reserved-at-H (q .0) k _ (q .1) l lk o in
+        let e = one-digest-at-H g named _ (w .log) (holds .head) (p .0) (q .0) k l l _ _ (p .1 .listed) (q .1 .listed) (p .1 .within) x y in
         established-agree whole free (f .0) (h .0) _ _ (f .1) (h .1) k z ka kb e
 
     -- both have read d

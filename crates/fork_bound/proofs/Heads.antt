@@ -1,32 +1,40 @@
--- H's side of the claim: for one position H accepts the Reserves of one digest, in every list of steps.
-use mathlib.Core.Path.{_≡_, refl, ap, sym, _∙_}
-use mathlib.Core.Bool.{Bool, true, false, cond}
-use mathlib.Core.List.{List, [], _∷_, _++_, List·Memᴰ, List·Memᴰ·not-nil, List·Memᴰ·cases-cons, List·Memᴰ·append-cases}
+-- H's side of the claim: of the Reserves that H accepted and that were not given up since, those of one position have one digest, in every
+-- list of steps.
+use mathlib.Core.Path.{_≡_, refl, ap, sym, _∙_, subst}
+use mathlib.Core.Bool.{true, false, cond}
+use mathlib.Core.List.{List, [], _∷_, _++_, List·Memᴰ, List·Memᴰ·not-nil, List·Memᴰ·cases-cons}
 use mathlib.Core.Logic.{_⊎_, inl, inr}
-use Prim.Native.Nat.{ℕ, _%_, _≤_, _<_}
+use Prim.Native.Nat.{ℕ, _-_, _%_, _≤_, _<_}
 use native.Mathlib.Nat.{mod-lt}
 use native.Mathlib.Omega.{arith}
-use lib.ListN.{length, take}
+use lib.Dec.{eqb}
+use lib.ListN.{length, take, length-append}
 use lib.Seq.{take-all}
-use borrow.Author.Tests.{eq-eqb, ne-eqb, lt-leb, eqb-true}
-use Rattle.sha256.specs.Bytes.{eqs}
+use borrow.Author.Tests.{ne-eqb, eqb-true}
 use Rattle.sha256.proofs.Laws.{be-mod}
 use Rattle.tree.specs.Cover.{piece}
-use Rattle.tree.specs.Message.{request, requestHeader, requestKind, requestLog, requestPosition, requestBody, answer, answerHeader, answerCode}
-use Rattle.tree.proofs.Cases.{by-eqb, cases-eq}
-use Rattle.tree.proofs.Messages.{request-kind, request-position, request-body, answer-code}
+use Rattle.tree.specs.Message.{request, requestHeader, requestKind, requestAuthor, requestPosition, requestBody, answer, answerHeader, answerCode}
+use Rattle.tree.proofs.Cases.{by-eqb, cases-eq, not-both}
+use Rattle.tree.proofs.Messages.{answer-header-length, request-kind, request-author, request-position, request-body, answer-code}
 use Rattle.tree.proofs.Pieces.{piece-whole}
 use Rattle.tree.specs.Setup.{firstCode, userCount, Settings}
+use Rattle.user.proofs.Passed.{by-cond}
 use Rattle.server.specs.declared.Head.{Head}
-use Rattle.server.specs.Shape.{requestBodyFits, requestFits}
-use Rattle.server.specs.Checks.{ownsNode, reservable, serverSetupChecks, requestChecks, checksOver, kindChecks}
-use Rattle.server.specs.Serve.{headAfter, headerGiven, answerGiven, ServeOutcome, refusedSetup, served}
-use Rattle.server.proofs.Served.{code, served-passed, served-refused}
-use Rattle.server.proofs.Theorems.{refusal-keeps-all, head-changes-only-by-reserve, position-never-falls, one-digest-a-position}
-use Rattle.server.proofs.After.{accepted-setup, accepted-code, accepted-fits}
-use Rattle.whole_run.specs.World.{Event, answered}
+use Rattle.server.specs.Shape.{requestBodyFits}
+use Rattle.server.specs.Store.{records}
+use Rattle.server.specs.Checks.{serverSetupChecks, requestChecks, recordFound, pullSource}
+use Rattle.server.specs.Serve.{noneEarlier, asEarlier, reservedHead, broughtBack, headerGiven, bodyGiven, answerGiven, ServeOutcome, refusedSetup, served}
+use Rattle.server.proofs.Codes.{request-codes}
+use Rattle.server.proofs.Served.{rs, code, given, served-passed, served-refused}
+use Rattle.server.proofs.Theorems.{Heads, reserved-or-same, refusal-keeps-all, head-changes-only-by-reserve-or-give-up, reserve-passed}
+use Rattle.server.proofs.After.{reserved-higher, reserved-again, accepted-setup, accepted-code, accepted-fits}
+use Rattle.server.proofs.GiveUps.{reserve-is-head, give-up-is-heads, give-up-brings-back}
+use Rattle.whole_run.specs.World.{Setup, Event, handedOut, answered, Noted}
 use Rattle.whole_run.specs.Runs.{NewServer, newHead, serverEvents}
+use Rattle.fork_bound.specs.Fair.{InTime}
 use Rattle.whole_run.proofs.Answers.{all-given}
+use Rattle.fork_bound.proofs.Order.{noted-in, noted-below, noted-later, noted-before}
+use Rattle.fork_bound.proofs.Taken.{Took}
 
 -- the tenth byte of an answer is its code, whatever the other fields are
 code-byte : (kind own p l c : ℕ) (body : List ℕ) → c < 256 → answerCode (answerHeader kind own p l c ++ body) ≡ c
@@ -36,156 +44,332 @@ code-byte kind own p l c body h =
     answer-code (kind % 256) (own % 256) (p % 4294967296) (l % 256) c body
     (mod-lt kind (omega arith)) (mod-lt own (omega arith)) (mod-lt p (omega arith)) (mod-lt l (omega arith)) h)
 
--- a Reserve's codes are 0 to 4
-reserve-codes : (a b c d : Bool) → cond a (cond b (cond c (cond {A = ℕ} d 0 4) 3) 2) 1 ≤ 4
-reserve-codes true true true true = omega arith
-reserve-codes true true true false = omega arith
-reserve-codes true true false d = omega arith
-reserve-codes true false c d = omega arith
-reserve-codes false b c d = omega arith
-
--- A head at p or past it, with the digest δ if it is at p.
-pub record Past (p : ℕ) (δ : List ℕ) (h : Head) : Type 0 where
-  pub up : p ≤ h .position
-  pub stay : h .position ≡ p → h .digest ≡ δ
+header-length : (own : ℕ) (q : List ℕ) (c : ℕ) → length (headerGiven own q c) ≡ 10
+unfolding headerGiven
+header-length own q c = answer-header-length _ own _ _ c
 
 -- one call of H
 module _ (s : Settings) (h : Head) (store : List ℕ) (used : ℕ) (q buffer : List ℕ) where
   abbrev after : ServeOutcome
   after = served s h store used q buffer
 
-  -- an accepted Reserve is the head from then on; by check 1 its body has 32 bytes
+  abbrev noted-of : ℕ → List Event
+  noted-of H = serverEvents H q (after .out .answered) (after .answer)
+
+  small-code : code s h store used q buffer < 256
+  unfolding requestChecks
+  small-code =
+      let rs = records (userCount (s .users)) (take used store) in
+      elim (request-codes s h (recordFound rs q) (pullSource rs q) (length store - used) q) [ inl l ↦ omega (arith, l) | inr e ↦ omega (arith, e) ]
+
+  -- the answer that is noted is the one that was given: it has the call's code
+  given-code : firstCode (serverSetupChecks s h store used buffer) ≡ 0 → answerCode (take (after .out .answered) (after .answer)) ≡ after .out .code
+  unfolding answerGiven headerGiven
+  given-code z =
+      let c = code-byte _ (s .own) _ _ (code s h store used q buffer) _ small-code in
+      rw (all-given s h store used q buffer z, served-passed s h store used q buffer z) c
+
+  -- a call notes its answer, if it gives one
+  noted-code : (H : ℕ) (r x : List ℕ) → List·Memᴰ (answered H r x) (noted-of H) → (r ≡ q) × (answerCode x ≡ after .out .code)
+  unfolding serverEvents refusedSetup
+  noted-code H r x =
+      let a : List ℕ = take (after .out .answered) (after .answer) in
+      by-eqb (λ b. List·Memᴰ (answered H r x) (cond b [] (answered H q a ∷ [])) → (r ≡ q) × (answerCode x ≡ after .out .code)) (after .out .answered) 0
+      (λ _ i. absurd (List·Memᴰ·not-nil i))
+      (λ n i. elim (List·Memᴰ·cases-cons i) [
+        | inl e ↦ cases-eq (firstCode (serverSetupChecks s h store used buffer)) 0
+            (λ z. let same : x ≡ a = cc in (cc, ap answerCode same ∙ given-code z))
+            (λ m. absurd (n (rw (served-refused s h store used q buffer _ refl m))))
+        | inr j ↦ absurd (List·Memᴰ·not-nil j)
+      ])
+
+  -- and one that is accepted gives one
+  accepted-noted : (H : ℕ) → after .out .code ≡ 0 → (x : List ℕ) × (noted-of H ≡ answered H q x ∷ []) × (answerCode x ≡ 0)
+  unfolding serverEvents answerGiven
+  accepted-noted H ok =
+      let z = accepted-setup s h store used q buffer ok in
+      let some : after .out .answered ≡ 0 → ⊥ = λ e.
+      let size : length (given s h store used q buffer) ≡ 0 = rw (served-passed s h store used q buffer z) at e in
+      let first = headerGiven (s .own) q (code s h store used q buffer) in
+      let parts = length-append first (cond (eqb (code s h store used q buffer) 0) (bodyGiven h (pullSource (rs s h store used q buffer) q) q) []) in
+      omega (arith, size, parts, header-length (s .own) q (code s h store used q buffer)) in
+      (take (after .out .answered) (after .answer), rw (ne-eqb (after .out .answered) 0 some), given-code z ∙ ok)
+
+  -- an accepted Reserve's digest has 32 bytes
   reserved-body : after .out .code ≡ 0 → requestKind q ≡ 5 → length (requestBody q) ≡ 32
   unfolding requestBodyFits
   reserved-body ok k = eqb-true (length (requestBody q)) 32 (rw k at (accepted-fits s h store used q buffer ok .body))
 
-  reserved-head : after .out .code ≡ 0 → requestKind q ≡ 5
-      → (after .out .head .position ≡ requestPosition q) × (after .out .head .digest ≡ requestBody q)
-  unfolding headAfter
-  reserved-head ok k =
+  reserved-digest : after .out .code ≡ 0 → requestKind q ≡ 5 → piece (requestBody q) 0 ≡ requestBody q
+  reserved-digest ok k =
       let l = reserved-body ok k in
-      let d : piece (requestBody q) 0 ≡ requestBody q = piece-whole (requestBody q) 0 (omega arith) ∙ take-all 32 (requestBody q) (omega arith) in
-      rw (
-        served-passed s h store used q buffer (accepted-setup s h store used q buffer ok),
-        eq-eqb (code s h store used q buffer) 0 (accepted-code s h store used q buffer ok),
-        eq-eqb (requestKind q) 5 k,
-      ) (refl, d)
+      piece-whole (requestBody q) 0 (omega arith) ∙ take-all 32 (requestBody q) (omega arith)
 
-  digest-stays-whole : length (h .digest) ≡ 32 → length (after .out .head .digest) ≡ 32
-  digest-stays-whole w =
-      cases-eq (after .out .code) 0
-      (λ ok. cases-eq (requestKind q) 5
-      (λ k. ap length (reserved-head ok k .1) ∙ reserved-body ok k)
-      (λ n. rw (head-changes-only-by-reserve s h store used q buffer n) w))
-      (λ n. rw (refusal-keeps-all s h store used q buffer n .0) w)
+-- a request of this kind of user a, for p and δ
+abbrev pub Of : ℕ → ℕ → ℕ → List ℕ → List ℕ → Type 0
+Of kind a p δ q = (requestKind q ≡ kind) × (requestAuthor q ≡ a) × (requestPosition q ≡ p) × (requestBody q ≡ δ)
 
-  reserve-code-small : requestKind q ≡ 5 → code s h store used q buffer ≤ 4
-  unfolding requestChecks checksOver kindChecks firstCode
-  reserve-code-small k =
-      let one : requestKind q ≡ 1 → ⊥ = λ e. omega arith in
-      rw (ne-eqb (requestKind q) 1 one, lt-leb (requestKind q) 4 (omega arith), eq-eqb (requestKind q) 5 k)
-      (reserve-codes (requestFits (userCount (s .users)) q) (eqs (requestLog q) (s .log)) (ownsNode (s .servers) (s .own) q) (reservable h q))
+-- H accepted a Reserve of user a for p and δ, and has accepted no give-up of it since
+pub record Stands (H : ℕ) (log : List Event) (a p : ℕ) (δ : List ℕ) : Type 0 where
+  pub request : List ℕ
+  pub answer : List ℕ
+  pub number : ℕ
+  pub given : Noted log number (answered H request answer)
+  pub reserves : Of 5 a p δ request
+  pub code : answerCode answer ≡ 0
+  pub since : (k : ℕ) (r y : List ℕ) → number < k → Noted log k (answered H r y) → Of 9 a p δ r → answerCode y ≡ 0 → ⊥
 
-  -- the answer that is noted is the one that was given, so code 0 in the answer to a Reserve is code 0 of the call
-  answer-accepts : firstCode (serverSetupChecks s h store used buffer) ≡ 0 → requestKind q ≡ 5
-      → answerCode (take (after .out .answered) (after .answer)) ≡ 0 → after .out .code ≡ 0
-  unfolding answerGiven headerGiven
-  answer-accepts z k e =
-      let p = served-passed s h store used q buffer z in
-      let c = code-byte _ (s .own) _ _ (code s h store used q buffer) _ (omega (arith, reserve-code-small k)) in
-      rw p (sym c ∙ (rw (all-given s h store used q buffer z) at e))
+-- p, a and δ are those of a head, or p is below it
+pub record Below (a p : ℕ) (δ : List ℕ) (position author : ℕ) (digest : List ℕ) : Type 0 where
+  pub up : p ≤ position
+  pub same : p ≡ position → (a ≡ author) × (δ ≡ digest)
 
-  -- a call notes its answer, if it gives one
-  pub noted : (H K : ℕ) (r x : List ℕ) → List·Memᴰ (answered H r x) (serverEvents K q (after .out .answered) (after .answer))
-      → (r ≡ q) × (x ≡ take (after .out .answered) (after .answer)) × (H ≡ K) × (after .out .answered ≡ 0 → ⊥)
-  unfolding serverEvents
-  noted H K r x m =
-      let a : List ℕ = take (after .out .answered) (after .answer) in
-      let Given = (r ≡ q) × (x ≡ a) × (H ≡ K) × (after .out .answered ≡ 0 → ⊥) in
-      by-eqb (λ b. List·Memᴰ (answered H r x) (cond b [] (answered K q a ∷ [])) → Given) (after .out .answered) 0
-      (λ _ i. absurd (List·Memᴰ·not-nil i))
-      (λ n i. elim (List·Memᴰ·cases-cons i) [ inl e ↦ (cc, cc, cc, n) | inr j ↦ absurd (List·Memᴰ·not-nil j) ])
-      m
+-- a give-up that H accepted at number k was in time
+abbrev pub Timely : ℕ → List Event → ℕ → List ℕ → Type 0
+Timely H log k q =
+    (m : ℕ) × Noted log m (handedOut (requestAuthor q) H q) × ((i j : ℕ) (r x : List ℕ) → m < i → i < j → j < k
+    → Noted log i (handedOut (requestAuthor q) H r) → Noted log j (answered H r x) → ⊥)
 
-  noted-accepts : (H K : ℕ) (r x : List ℕ) → List·Memᴰ (answered H r x) (serverEvents K q (after .out .answered) (after .answer))
-      → requestKind r ≡ 5 → answerCode x ≡ 0 → (r ≡ q) × (after .out .code ≡ 0)
-  unfolding refusedSetup
-  noted-accepts H K r x m k e =
-      let n = noted H K r x m in
-      cases-eq (firstCode (serverSetupChecks s h store used buffer)) 0
-      (λ z. (n .0, answer-accepts z (rw (n .0) at k) (rw (n .1) at e)))
-      (λ i. absurd (n .3 (rw (served-refused s h store used q buffer _ refl i))))
-
-  -- a head at p or past it stays so, and at p it keeps its digest
-  past-stays : (p : ℕ) (δ : List ℕ) → length (h .digest) ≡ 32 → Past p δ h → Past p δ (after .out .head)
-  past-stays p δ w k =
-      let a = k .up in
-      let b = position-never-falls s h store used q buffer in
-      record {
-        up = omega arith;
-        stay = λ e. one-digest-a-position s h store used q buffer w (omega arith) .1 ∙ k .stay (omega arith);
-      }
-
--- server number H accepted the Reserve q
-abbrev pub Accepted : ℕ → List Event → List ℕ → Type 0
-Accepted H log q = (x : List ℕ) × List·Memᴰ (answered H q x) log × (requestKind q ≡ 5) × (answerCode x ≡ 0)
-
--- its head is past every Reserve that it accepted, and for one position they have one digest
+-- What stands at H is at its head or below; if there is an earlier head, nothing stands between the two; and for one position one digest stands.
 pub record Logged (H : ℕ) (h : Head) (log : List Event) : Type 0 where
   pub whole : length (h .digest) ≡ 32
-  pub past : (q : List ℕ) → Accepted H log q → Past (requestPosition q) (requestBody q) h
-  pub same : (q r : List ℕ) → Accepted H log q → Accepted H log r → requestPosition q ≡ requestPosition r → requestBody q ≡ requestBody r
+  pub earlier-whole : h .earlier .known ≡ true → length (h .earlier .digest) ≡ 32
+  pub past : (a p : ℕ) (δ : List ℕ) → Stands H log a p δ → Below a p δ (h .position) (h .author) (h .digest)
+  pub before : h .earlier .known ≡ true → (a p : ℕ) (δ : List ℕ) → Stands H log a p δ
+      → (p ≡ h .position) ⊎ Below a p δ (h .earlier .position) (h .earlier .author) (h .earlier .digest)
+  pub same : (a b p : ℕ) (δ ε : List ℕ) → Stands H log a p δ → Stands H log b p ε → δ ≡ ε
+  pub fair : (k : ℕ) (q y : List ℕ) → Noted log k (answered H q y) → requestKind q ≡ 9 → answerCode y ≡ 0 → Timely H log k q
+
+-- a give-up that was in time stays so
+timely-later : (H : ℕ) (es log : List Event) (k : ℕ) (q y : List ℕ) → Noted log k (answered H q y) → Timely H log k q → Timely H (es ++ log) k q
+timely-later H es log k q y n t =
+    let small = noted-below log k _ n in
+    let old : (i : ℕ) (e : Event) → i < k → Noted (es ++ log) i e → Noted log i e = λ i e l m. elim (noted-before es log i e m) [
+      | inl x ↦ x
+      | inr x ↦ absurd (omega (arith, x .1))
+    ] in
+    (t .0, noted-later es log _ _ (t .1), λ i j r x a b c u v. t .2 i j r x a b c (old i _ (omega arith) u) (old j _ c v))
 
 -- steps of users and of other servers: the head stays, and no answer of H's is new
 pub logged-later : (H : ℕ) (h : Head) (es log : List Event) → ((q a : List ℕ) → List·Memᴰ (answered H q a) es → ⊥) → Logged H h log
     → Logged H h (es ++ log)
 logged-later H h es log none k =
-    record { whole = k .whole; past = λ q y. k .past q (before q y); same = λ q r y z. k .same q r (before q y) (before r z) }
+    record {
+      whole = k .whole;
+      earlier-whole = k .earlier-whole;
+      past = λ a p δ x. k .past a p δ (stood a p δ x);
+      before = λ e a p δ x. k .before e a p δ (stood a p δ x);
+      same = λ a b p δ ε x y. k .same a b p δ ε (stood a p δ x) (stood b p ε y);
+      fair = λ j q y n e z. let m = old j q y n in timely-later H es log j q y m (k .fair j q y m e z);
+    }
   where
-    before : (q : List ℕ) → Accepted H (es ++ log) q → Accepted H log q
-    before q y = (y .0, elim (List·Memᴰ·append-cases es (y .1)) [ inl m ↦ absurd (none q (y .0) m) | inr m ↦ m ], y .2, y .3)
+    old : (j : ℕ) (q y : List ℕ) → Noted (es ++ log) j (answered H q y) → Noted log j (answered H q y)
+    old j q y n = elim (noted-before es log j _ n) [ inl x ↦ x | inr x ↦ absurd (none q y (x .0)) ]
+
+    stood : (a p : ℕ) (δ : List ℕ) → Stands H (es ++ log) a p δ → Stands H log a p δ
+    stood a p δ x =
+        record {
+          request = x .request;
+          answer = x .answer;
+          number = x .number;
+          given = old _ _ _ (x .given);
+          reserves = x .reserves;
+          code = x .code;
+          since = λ j r y l n. x .since j r y l (noted-later es log _ _ n);
+        }
 
 -- a call of H
-module _ (H : ℕ) (h : Head) (log : List Event) (s : Settings) (store : List ℕ) (used : ℕ) (q buffer : List ℕ) (k : Logged H h log) where
+module _ (H : ℕ) (h : Head) (log : List Event) (s : Settings) (store : List ℕ) (used : ℕ) (q buffer : List ℕ) (k : Logged H h log)
+    (timely : requestKind q ≡ 9 → served s h store used q buffer .out .code ≡ 0 → InTime H log q) where
   abbrev pub call : ServeOutcome
   call = served s h store used q buffer
 
+  abbrev es : List Event
+  es = serverEvents H q (call .out .answered) (call .answer)
+
   abbrev pub longer : List Event
-  longer = serverEvents H q (call .out .answered) (call .answer) ++ log
+  longer = es ++ log
 
-  -- an accepted Reserve is the head now, or was accepted before
-  split : (r : List ℕ) → Accepted H longer r
-      → ((call .out .head .position ≡ requestPosition r) × (call .out .head .digest ≡ requestBody r)) ⊎ Accepted H log r
-  split r y = elim (List·Memᴰ·append-cases (serverEvents H q (call .out .answered) (call .answer)) (y .1)) [
-    | inl m ↦ (let n = noted-accepts s h store used q buffer H H r (y .0) m (y .2) (y .3) in
-        inl (rw (n .0) (reserved-head s h store used q buffer (n .1) (rw (n .0) at (y .2)))))
-    | inr m ↦ inr (y .0, m, y .2, y .3)
+  -- what stands then stood before and is not given up now, or is reserved now
+  split : (a p : ℕ) (δ : List ℕ) → Stands H longer a p δ
+      → (Stands H log a p δ × (Of 9 a p δ q → call .out .code ≡ 0 → ⊥)) ⊎ (Of 5 a p δ q × (call .out .code ≡ 0))
+  unfolding Noted
+  split a p δ x = elim (noted-before es log (x .number) _ (x .given)) [
+    | inl y ↦ inl (
+      record {
+        request = x .request;
+        answer = x .answer;
+        number = x .number;
+        given = y;
+        reserves = x .reserves;
+        code = x .code;
+        since = λ j r z l n. x .since j r z l (noted-later es log _ _ n);
+      },
+      λ o ok. let n = accepted-noted s h store used q buffer H ok in
+          x .since (length log) q (n .0) (noted-below log _ _ y) (rw (n .1) (inl (refl, refl))) o (n .2),
+    )
+    | inr y ↦ (let n = noted-code s h store used q buffer H (x .request) (x .answer) (y .0) in
+        inr (subst (Of 5 a p δ) (n .0) (x .reserves), sym (n .1) ∙ x .code))
   ]
 
-  now-past : (r : List ℕ) → Accepted H longer r → Past (requestPosition r) (requestBody r) (call .out .head)
-  now-past r y = elim (split r y) [
-    | inl m ↦ record { up = omega (arith, m .0); stay = λ _. m .1 }
-    | inr m ↦ past-stays s h store used q buffer (requestPosition r) (requestBody r) (k .whole) (k .past r m)
+  -- a give-up that is accepted now is in time
+  timely-now : (j : ℕ) → j ≤ length log → InTime H log q → Timely H longer j q
+  unfolding InTime
+  timely-now j last t =
+      let old : (i : ℕ) (e : Event) → i < j → Noted longer i e → Noted log i e = λ i e l m. elim (noted-before es log i e m) [
+        | inl x ↦ x
+        | inr x ↦ absurd (omega (arith, x .1))
+      ] in
+      (t .0, noted-later es log _ _ (t .1), λ i l r x b c d u v. t .2 i l r x b c (old i _ (omega arith) u) (old l _ d v))
+
+  one-event : length es ≤ 1
+  unfolding serverEvents
+  one-event = by-cond (λ (xs : List Event). length xs ≤ 1) (eqb (call .out .answered) 0) [] _ (λ _. omega arith) (λ _. omega arith)
+
+  fair-now : (j : ℕ) (r y : List ℕ) → Noted longer j (answered H r y) → requestKind r ≡ 9 → answerCode y ≡ 0 → Timely H longer j r
+  unfolding InTime
+  fair-now j r y n e z = elim (noted-before es log j _ n) [
+    | inl x ↦ timely-later H es log j r y x (k .fair j r y x e z)
+    | inr x ↦ (let c = noted-code s h store used q buffer H r y (x .0) in
+        subst (λ b. Timely H longer j b) (sym (c .0))
+        (timely-now j (omega (arith, noted-below longer j _ n, length-append es log, one-event)) (timely (rw (c .0) at e) (sym (c .1) ∙ z))))
   ]
+
+  -- what holds of the new head, by what it is
+  abbrev Goes : Head → Type 0
+  Goes h′ = Logged H h′ longer
+
+  -- nothing is reserved now, and the head stays
+  stays : (call .out .code ≡ 0 → requestKind q ≡ 5 → ⊥) → Goes h
+  stays none =
+      record {
+        whole = k .whole;
+        earlier-whole = k .earlier-whole;
+        past = λ a p δ x. k .past a p δ (old a p δ x);
+        before = λ e a p δ x. k .before e a p δ (old a p δ x);
+        same = λ a b p δ ε x y. k .same a b p δ ε (old a p δ x) (old b p ε y);
+        fair = fair-now;
+      }
+    where
+      old : (a p : ℕ) (δ : List ℕ) → Stands H longer a p δ → Stands H log a p δ
+      old a p δ x = elim (split a p δ x) [ inl y ↦ y .0 | inr y ↦ absurd (none (y .1) (y .0 .0)) ]
+
+  -- a Reserve is accepted
+  module _ (ok : served s h store used q buffer .out .code ≡ 0) (reserve : requestKind q ≡ 5) where
+    abbrev next : Head
+    next = reservedHead h q
+
+    digest-is : next .digest ≡ requestBody q
+    unfolding reservedHead
+    digest-is = reserved-digest s h store used q buffer ok reserve
+
+    at-head : (a p : ℕ) (δ : List ℕ) → Of 5 a p δ q → Below a p δ (next .position) (next .author) (next .digest)
+    unfolding reservedHead
+    at-head a p δ o = record { up = omega (arith, o .2); same = λ _. (sym (o .1), sym (o .3) ∙ sym digest-is) }
+
+    next-whole : length (next .digest) ≡ 32
+    next-whole = ap length digest-is ∙ reserved-body s h store used q buffer ok reserve
+
+    -- for a higher position
+    higher : h .position < requestPosition q → Goes next
+    unfolding reservedHead asEarlier
+    higher l =
+        let e = reserved-higher h q l in
+        record {
+          whole = next-whole;
+          earlier-whole = λ _. rw e (k .whole);
+          past = λ a p δ x. elim (split a p δ x) [
+            | inl y ↦ (let b = k .past a p δ (y .0) in let up = b .up in record { up = omega arith; same = λ same. absurd (omega arith) })
+            | inr y ↦ at-head a p δ (y .0)
+          ];
+          before = λ _ a p δ x. elim (split a p δ x) [ inl y ↦ inr (rw e (k .past a p δ (y .0))) | inr y ↦ inl (sym (y .0 .2)) ];
+          same = λ a b p δ ε x y. elim (split a p δ x) [
+            | inl v ↦ elim (split b p ε y) [
+              | inl w ↦ k .same a b p δ ε (v .0) (w .0)
+              | inr w ↦ (let up = k .past a p δ (v .0) .up in absurd (omega (arith, w .0 .2)))
+            ]
+            | inr v ↦ elim (split b p ε y) [
+              | inl w ↦ (let up = k .past b p ε (w .0) .up in absurd (omega (arith, v .0 .2)))
+              | inr w ↦ sym (v .0 .3) ∙ w .0 .3
+            ]
+          ];
+          fair = fair-now;
+        }
+
+    -- for the head's own
+    again : Heads h q → Goes next
+    unfolding reservedHead
+    again t =
+        let e = reserved-again h q (t .position) in
+        record {
+          whole = next-whole;
+          earlier-whole = λ m. rw e (k .earlier-whole (rw e at m));
+          past = λ a p δ x. elim (split a p δ x) [
+            | inl y ↦ (let b = k .past a p δ (y .0) in let up = b .up in record {
+              up = omega (arith, t .position);
+              same = λ same. (let c = b .same (same ∙ t .position) in (c .0 ∙ sym (t .author), c .1 ∙ sym (t .digest) ∙ sym digest-is));
+            })
+            | inr y ↦ at-head a p δ (y .0)
+          ];
+          before = λ m a p δ x. elim (split a p δ x) [
+            | inl y ↦ elim (k .before (rw e at m) a p δ (y .0)) [ inl z ↦ inl (z ∙ sym (t .position)) | inr z ↦ inr (rw e z) ]
+            | inr y ↦ inl (sym (y .0 .2))
+          ];
+          same = λ a b p δ ε x y. elim (split a p δ x) [
+            | inl v ↦ elim (split b p ε y) [
+              | inl w ↦ k .same a b p δ ε (v .0) (w .0)
+              | inr w ↦ k .past a p δ (v .0) .same (sym (w .0 .2) ∙ t .position) .1 ∙ sym (t .digest) ∙ w .0 .3
+            ]
+            | inr v ↦ elim (split b p ε y) [
+              | inl w ↦ sym (v .0 .3) ∙ t .digest ∙ sym (k .past b p ε (w .0) .same (sym (v .0 .2) ∙ t .position) .1)
+              | inr w ↦ sym (v .0 .3) ∙ w .0 .3
+            ]
+          ];
+          fair = fair-now;
+        }
+
+  -- A give-up is accepted: what stood at the head's position is given up, and nothing stood between it and the earlier head.
+  brings-back : call .out .code ≡ 0 → requestKind q ≡ 9 → Goes (broughtBack (h .earlier))
+  unfolding broughtBack noneEarlier
+  brings-back ok nine =
+      let t = give-up-is-heads s h store used q buffer ok nine in
+      let heads = t .1 in
+      let old : (a p : ℕ) (δ : List ℕ) → Stands H longer a p δ → Stands H log a p δ × (Of 9 a p δ q → call .out .code ≡ 0 → ⊥) =
+      λ a p δ x. elim (split a p δ x) [ inl y ↦ y | inr y ↦ absurd (let five = y .0 .0 in omega arith) ] in
+      record {
+        whole = k .earlier-whole (t .0);
+        earlier-whole = λ m. not-both false m refl;
+        past = λ a p δ x. (let y = old a p δ x in elim (k .before (t .0) a p δ (y .0)) [
+          | inl e ↦ (let b = k .past a p δ (y .0) .same e in
+              absurd (y .1 (nine, heads .author ∙ sym (b .0), heads .position ∙ sym e, heads .digest ∙ sym (b .1)) ok))
+          | inr b ↦ b
+        ]);
+        before = λ m. not-both false m refl;
+        same = λ a b p δ ε x y. k .same a b p δ ε (old a p δ x .0) (old b p ε y .0);
+        fair = fair-now;
+      }
 
   pub logged-server : Logged H (call .out .head) longer
   logged-server =
-      record {
-        whole = digest-stays-whole s h store used q buffer (k .whole);
-        past = now-past;
-        same = λ r t y z e. elim (split r y) [
-          | inl m ↦ sym (m .1) ∙ now-past t z .stay (m .0 ∙ e)
-          | inr m ↦ elim (split t z) [ inl n ↦ sym (now-past r y .stay (n .0 ∙ sym e)) ∙ n .1 | inr n ↦ k .same r t m n e ]
-        ];
-      }
+      cases-eq (call .out .code) 0
+      (λ ok. cases-eq (requestKind q) 5
+      (λ five. subst Goes (sym (reserve-is-head s h store used q buffer ok five))
+      (reserved-or-same h q (reserve-passed s h store used q buffer (accepted-code s h store used q buffer ok) five) (higher ok five) (again ok five)))
+      (λ n. cases-eq (requestKind q) 9
+      (λ nine. subst Goes (sym (give-up-brings-back s h store used q buffer ok nine)) (brings-back ok nine))
+      (λ m. subst Goes (sym (head-changes-only-by-reserve-or-give-up s h store used q buffer (λ _. n) (λ _. m))) (stays (λ _. n)))))
+      (λ n. subst Goes (sym (refusal-keeps-all s h store used q buffer n .0)) (stays (λ z _. n z)))
 
 pub logged-first : (H : ℕ) (b : NewServer) → Logged H (newHead b) []
-unfolding newHead
+unfolding newHead noneEarlier
 logged-first H b =
     record {
       whole = b .digest-size;
-      past = λ q y. absurd (List·Memᴰ·not-nil (y .1));
-      same = λ q r y z e. absurd (List·Memᴰ·not-nil (y .1));
+      earlier-whole = λ m. not-both false m refl;
+      past = λ a p δ x. absurd (List·Memᴰ·not-nil (noted-in [] _ _ (x .given)));
+      before = λ m. not-both false m refl;
+      same = λ a b p δ ε x y. absurd (List·Memᴰ·not-nil (noted-in [] _ _ (x .given)));
+      fair = λ k q y n. absurd (List·Memᴰ·not-nil (noted-in [] _ _ n));
     }
 
 -- what H reads in a Reserve: each number modulo the size of its field
@@ -197,23 +381,39 @@ module _ (log : List ℕ) (named : length log ≡ 16) (a p l : ℕ) (δ : List �
   unfolding request requestHeader
   reserve-wraps = rw (be-mod 2 a, be-mod 4 p, be-mod 1 l)
 
-  reserve-read : (requestKind reserve ≡ 5) × (requestPosition reserve ≡ p % 4294967296) × (requestBody reserve ≡ δ)
+  pub reserve-read : (requestKind reserve ≡ 5) × (requestAuthor reserve ≡ a % 65536) × (requestPosition reserve ≡ p % 4294967296) × (requestBody reserve ≡ δ)
   reserve-read =
       let ha : a % 65536 < 65536 = mod-lt a (omega arith) in
       let hp : p % 4294967296 < 4294967296 = mod-lt p (omega arith) in
       let hl : l % 256 < 256 = mod-lt l (omega arith) in
       rw reserve-wraps (
         request-kind 5 log _ _ _ δ (omega arith) named ha hp hl,
+        request-author 5 log _ _ _ δ (omega arith) named ha hp hl,
         request-position 5 log _ _ _ δ (omega arith) named ha hp hl,
         request-body 5 log _ _ _ δ (omega arith) named ha hp hl,
       )
 
--- Two Reserves of one position that H answered with code 0 have the same digest.
-pub one-digest-at-H : (log : List ℕ) → length log ≡ 16 → (H : ℕ) (h : Head) (es : List Event) → Logged H h es → (a b p l m : ℕ) (δ ε x y : List ℕ)
-    → List·Memᴰ (answered H (request 5 log a p l δ) x) es → answerCode x ≡ 0
-    → List·Memᴰ (answered H (request 5 log b p m ε) y) es → answerCode y ≡ 0
-    → δ ≡ ε
-one-digest-at-H log named H h es k a b p l m δ ε x y i c j d =
-    let q = reserve-read log named a p l δ in
-    let r = reserve-read log named b p m ε in
-    sym (q .2) ∙ k .same _ _ (x, i, q .0, c) (y, j, r .0, d) (q .1 ∙ sym (r .1)) ∙ r .2
+-- A Reserve that H accepted, of which the user has handed out no give-up since, stands: H took none of it in, by the premises.
+stands : (g : Setup) → length (g .log) ≡ 16 → (h : Head) (log : List Event) → Logged (g .follows) h log → (a p l : ℕ) (δ : List ℕ) → a ≤ 64 → p ≤ 1048576
+    → Took g log a p l δ → Stands (g .follows) log a p δ
+stands g named h log k a p l δ listed small t =
+    let r = reserve-read (g .log) named a p l δ in
+    record {
+      request = request 5 (g .log) a p l δ;
+      answer = t .answer;
+      number = t .number;
+      given = t .given;
+      reserves = (r .0, omega (arith, r .1), omega (arith, r .2), r .3);
+      code = t .code;
+      since = λ j r y late n o z.
+          let f = k .fair j r y n (o .0) z in
+          let i = t .since (f .0) r (subst (λ b. Noted log (f .0) (handedOut b (g .follows) r)) (o .1) (f .1)) (o .0, o .2, o .3) in
+          let q = request 5 (g .log) a p l δ in
+          f .2 (i .0) (t .number) q (t .answer) (i .1) (i .2) late (subst (λ b. Noted log (i .0) (handedOut b (g .follows) q)) (sym (o .1)) (i .3)) (t .given);
+    }
+
+-- Two of one position have the same digest.
+pub one-digest-at-H : (g : Setup) → length (g .log) ≡ 16 → (h : Head) (log : List Event) → Logged (g .follows) h log → (a b p l m : ℕ) (δ ε : List ℕ)
+    → a ≤ 64 → b ≤ 64 → p ≤ 1048576 → Took g log a p l δ → Took g log b p m ε → δ ≡ ε
+one-digest-at-H g named h log k a b p l m δ ε la lb small x y =
+    k .same a b p δ ε (stands g named h log k a p l δ la small x) (stands g named h log k b p m ε lb small y)

@@ -1,4 +1,4 @@
--- Histories that users signed: their trees were hashed, and each of their positions was reserved at H for one digest.
+-- Histories that users signed: their trees were hashed, and the digest of each of their positions was signed.
 use mathlib.Core.Path.{_≡_, refl, ap, sym, _∙_, subst}
 use mathlib.Core.Bool.{cond}
 use mathlib.Core.List.{List, [], List·Memᴰ}
@@ -7,18 +7,17 @@ use native.Mathlib.Omega.{arith}
 use lib.Dec.{eqb}
 use borrow.Author.Tests.{eq-eqb, ne-eqb}
 use Rattle.tree.specs.Level.{lg}
-use Rattle.tree.specs.Label.{owner}
 use Rattle.tree.specs.Expr.{leaf, value, NoCollision}
 use Rattle.tree.specs.Tree.{tree, leaves, digest}
 use Rattle.tree.specs.Cover.{coverDigest, coverPath}
-use Rattle.tree.specs.Message.{request, answerCode, signedText}
+use Rattle.tree.specs.Message.{signedText}
 use Rattle.tree.proofs.Cases.{cases-le}
 use Rattle.tree.proofs.Levels.{lg-ge}
 use Rattle.tree.proofs.Agree.{AllIn}
 use Rattle.tree.proofs.Trees.{tree-cong, equal-digests-equal-leaves}
 use Rattle.tree.proofs.Grows.{path-gives-next-digest}
 use Rattle.tree.proofs.Messages.{text-position, text-digest}
-use Rattle.whole_run.specs.World.{signed, answered}
+use Rattle.whole_run.specs.World.{signed}
 use Rattle.fork_bound.specs.Claim.{NoneForged}
 use Rattle.fork_bound.proofs.Noted.{Whole, Hashed}
 
@@ -38,12 +37,6 @@ extend-tree f w s j z h =
     tree-cong (leaves f) (leaves (extend f w s)) (lg j) 0 j z (lg-ge j) (λ i a b. ap leaf (extend-old f w s i (omega arith)))
 
 module _ (W : Whole) where
-  abbrev n : ℕ
-  n = W .group .servers
-
-  abbrev H : ℕ
-  H = W .group .follows
-
   abbrev log : List ℕ
   log = W .group .log
 
@@ -55,23 +48,19 @@ module _ (W : Whole) where
   abbrev pub SignedAt : ℕ → List ℕ → Type 0
   SignedAt v δ = NoneForged (W .world) → (a : ℕ) × Signs a v δ
 
-  -- H accepted this Reserve of user a
-  abbrev pub Took : ℕ → ℕ → ℕ → List ℕ → Type 0
-  Took a p l δ = (x : List ℕ) × List·Memᴰ (answered H (request 5 log a p l δ) x) (W .world .log) × (answerCode x ≡ 0)
-
-  -- H accepted every Reserve of p that is its own to accept
-  pub record Reserved (a p : ℕ) (δ : List ℕ) : Type 0 where
+  -- user a of the list signed this digest of p entries, p being within the log
+  pub record SignedBy (a p : ℕ) (δ : List ℕ) : Type 0 where
     pub listed : a ≤ 64
     pub within : p ≤ 1048576
-    pub took : (l : ℕ) → l ≤ lg p → owner n p l ≡ H → Took a p l δ
+    pub signs : Signs a p δ
 
-  -- The first m texts of f are an established history: each of their trees was hashed, each position reserved.
+  -- The first m texts of f are an established history: each of their trees was hashed, each of their digests signed.
   pub record Established (f : ℕ → List ℕ) (m : ℕ) : Type 0 where
     pub hashed : (j : ℕ) → 0 < j → j ≤ m → AllIn (Hashed W) (tree (leaves f) (lg j) 0 j)
-    pub reserves : (j : ℕ) → 0 < j → j ≤ m → (a : ℕ) × Reserved a j (digest f j)
+    pub signers : (j : ℕ) → 0 < j → j ≤ m → (a : ℕ) × SignedBy a j (digest f j)
 
   pub established-shorter : (f : ℕ → List ℕ) (m k : ℕ) → k ≤ m → Established f m → Established f k
-  established-shorter f m k h e = record { hashed = λ j z b. e .hashed j z (omega arith); reserves = λ j z b. e .reserves j z (omega arith) }
+  established-shorter f m k h e = record { hashed = λ j z b. e .hashed j z (omega arith); signers = λ j z b. e .signers j z (omega arith) }
 
   -- two such histories that share a digest share their texts up to it
   pub established-agree : NoCollision (Hashed W) → (f g : ℕ → List ℕ) (m k : ℕ) → Established f m → Established g k
@@ -97,7 +86,8 @@ module _ (W : Whole) where
     pub is : text ≡ signedText log (suc w) δ
     pub before : 0 < w → SignedAt w τ
     pub link : Link w τ δ
-    pub reserved : Reserved a (suc w) δ
+    pub listed : a ≤ 64
+    pub within : suc w ≤ 1048576
 
   -- a history of v entries with this digest
   abbrev pub Knows : ℕ → List ℕ → Type 0
@@ -110,7 +100,7 @@ module _ (W : Whole) where
 
   -- one entry more
   pub established-longer : NoCollision (Hashed W) → (w : ℕ) (τ δ : List ℕ) (x : Link w τ δ) (a : ℕ) (f : ℕ → List ℕ) → Established f w
-      → (0 < w → digest f w ≡ τ) → Reserved a (suc w) δ → Established (extend f w (x .text)) (suc w) × (digest (extend f w (x .text)) (suc w) ≡ δ)
+      → (0 < w → digest f w ≡ τ) → SignedBy a (suc w) δ → Established (extend f w (x .text)) (suc w) × (digest (extend f w (x .text)) (suc w) ≡ δ)
   unfolding digest
   established-longer free w τ δ x a f q t r =
       let g = extend f w (x .text) in
@@ -122,33 +112,33 @@ module _ (W : Whole) where
           hashed = λ j z b.
               cases-le j w (λ c. subst (AllIn (Hashed W)) (extend-tree f w (x .text) j z c) (q .hashed j z c))
               (λ c. let k : j ≡ suc w = omega arith in rw k (grown .1));
-          reserves = λ j z b.
+          signers = λ j z b.
               cases-le j w
-              (λ c. let y = q .reserves j z c in (y .0, subst (λ e. Reserved (y .0) j (value e)) (extend-tree f w (x .text) j z c) (y .1)))
+              (λ c. let y = q .signers j z c in (y .0, subst (λ e. SignedBy (y .0) j (value e)) (extend-tree f w (x .text) j z c) (y .1)))
               (λ c. let k : j ≡ suc w = omega arith in (a, rw (k, d) r));
         },
         d,
       )
 
   none-established : (f : ℕ → List ℕ) → Established f 0
-  none-established f = record { hashed = λ j z b. absurd (omega arith); reserves = λ j z b. absurd (omega arith) }
+  none-established f = record { hashed = λ j z b. absurd (omega arith); signers = λ j z b. absurd (omega arith) }
 
   -- every signed text is the digest of such a history: by its position, whenever it was signed
   module _ (free : NoCollision (Hashed W)) (owned : NoneForged (W .world))
       (all : (a : ℕ) (text : List ℕ) → List·Memᴰ (signed a text) (W .world .log) → Signed a text) where
     histories : (v : ℕ) (τ : List ℕ) → 0 < v → v ≤ 1048576 → SignedAt v τ → Knows v τ
     histories zero τ z b s = absurd (omega arith)
-    histories (suc w) τ z b s = go (s owned .0) (all (s owned .0) (signedText log (suc w) τ) (s owned .1)) (histories w)
+    histories (suc w) τ z b s = go (s owned .0) (s owned .1) (all (s owned .0) (signedText log (suc w) τ) (s owned .1)) (histories w)
       where
-        go : (a : ℕ) → Signed a (signedText log (suc w) τ) → ((ε : List ℕ) → 0 < w → w ≤ 1048576 → SignedAt w ε → Knows w ε) → Knows (suc w) τ
-        go a x ih =
-            let m = x .reserved .within in
+        go : (a : ℕ) → Signs a (suc w) τ → Signed a (signedText log (suc w) τ) → ((ε : List ℕ) → 0 < w → w ≤ 1048576 → SignedAt w ε → Knows w ε) → Knows (suc w) τ
+        go a signs x ih =
+            let m = x .within in
             let p : suc w ≡ suc (x .w) =
             text-position log log (suc w) (suc (x .w)) τ (x .δ) (W .named) (W .named) (omega arith) (omega arith) (x .is) in
             let k : x .w ≡ w = omega arith in
             let d : τ ≡ x .δ = text-digest log log (suc w) (suc (x .w)) τ (x .δ) (W .named) (W .named) (omega arith) (omega arith) (x .is) in
             let l : Link w (x .τ) τ = rw (d, ← k) (x .link) in
-            let r : Reserved a (suc w) τ = rw (d, ← k) (x .reserved) in
+            let r : SignedBy a (suc w) τ = record { listed = x .listed; within = omega arith; signs = signs } in
             let q : 0 < w → SignedAt w (x .τ) = rw (← k) (x .before) in
             cases-le w 0
             (λ i.

@@ -56,10 +56,12 @@ module _ (W : Whole) (own : ℕ) (u : User) (ok : UserOk W own u) where
       → length (w .randomizer) ≡ 32 → UpdateOk W v c → UserOk W own (after u (asCall writing (writeWaits σ w (goingOn s σ m c))))
   unfolding after writeWaits asking returned viewAfter newReads
   waits-ok m w c room shut short random i =
+      let pull = pulls W own σ m c room in
       record {
-        seen = view-left _ (u .view) (pulls W own σ m c room) ∙ ok .seen;
+        seen = view-left _ (u .view) pull ∙ ok .seen;
         state = ok .state;
         call = record { short = short; random = random; waits = λ _. i; goes = λ o. not-both (w .opened) o shut };
+        out = λ e. absurd (omega arith);
       }
 
   -- a Write that starts
@@ -81,7 +83,7 @@ module _ (W : Whole) (own : ℕ) (u : User) (ok : UserOk W own u) where
       let two = first .0 .two in
       by-cond Keeps (k .opened) _ _
       (λ o _.
-      write-asks-ok W own u σ m′ w room o short random (ok .state) (λ _. ok .seen) (λ l h. absurd (omega arith))
+      write-asks-ok W own u σ m′ w room o short random (ok .state) (λ _. ok .seen)
       (λ h. absurd (omega (arith, commit-late (openPosition σ)))))
       (λ c.
       by-goes s σ m′ freshUpdate (λ o. Keeps (writeWaits σ w o)) (λ y. not-both _ y (fresh-waits n v (omega arith)))
@@ -173,7 +175,7 @@ module _ (W : Whole) (own : ℕ) (u : User) (ok : UserOk W own u) where
             };
             reads = r .state .reads;
           })
-          (λ y. absurd (y (reserve-first (suc (K .version))))) (λ l h. absurd (omega arith)) (λ h. absurd (omega (arith, commit-late (suc (K .version)))))
+          (λ y. absurd (y (reserve-first (suc (K .version))))) (λ h. absurd (omega (arith, commit-late (suc (K .version)))))
 
     pub write-updates-ok : Keeps (writeUpdates s σ (u .lent) w a)
     unfolding refused

@@ -1,27 +1,29 @@
 -- The steps of a Read keep what holds of its user, and what it reads is in its view.
 use mathlib.Core.Path.{_≡_, ap, sym, _∙_}
-use mathlib.Core.Bool.{true}
-use mathlib.Core.List.{List, List·Memᴰ·cases-cons}
+use mathlib.Core.Bool.{true, _&&_}
+use mathlib.Core.List.{List, [], List·Memᴰ·cases-cons}
 use mathlib.Core.Logic.{inl, inr}
 use Prim.Native.Nat.{ℕ, _≤_}
 use native.Mathlib.Omega.{arith}
-use lib.Dec.{eqb}
+use lib.Dec.{eqb, leb}
 use lib.ListN.{length, take}
-use borrow.Author.Tests.{eqb-false}
+use borrow.Author.Tests.{eqb-true, eqb-false, leb-true}
 use Rattle.tree.specs.Bytes.{written}
 use Rattle.tree.specs.Setup.{firstCode, Settings}
+use Rattle.tree.proofs.Cases.{and-true}
 use Rattle.tree.proofs.Agree.{AllIn, Sized}
 use Rattle.tree.proofs.Cuts.{read-digest-sized}
 use Rattle.tree.proofs.ReadLaws.{read-gives-leaf}
 use Rattle.user.specs.declared.call.Kept.{Kept}
-use Rattle.user.specs.Asking.{refused, done, asking}
+use Rattle.user.specs.Asking.{userSetupChecks, requestRoom, refused, done, asking}
 use Rattle.user.specs.Outcome.{Lent, Outcome}
 use Rattle.user_read.specs.declared.call.Read.{Read}
-use Rattle.user_read.specs.Read.{readChecks, freshRead, readAsks, readStarted, heldText, textAuthor, textEntry, readNext, readCollected, readOver, readGives, readEnds, readTaken}
-use Rattle.user.proofs.Passed.{by-cond}
+use Rattle.user_read.specs.Read.{readWant, readChecks, freshRead, readAsks, readStarted, heldText, textAuthor, textEntry, readNext, readCollected, readOver, readGives, readEnds, readTaken}
+use Rattle.user.proofs.Passed.{setup-passed, by-cond}
 use Rattle.user_read.proofs.ReadRules.{by-taken, next, collected, next-small, handed, held-small, read-given}
 use Rattle.user_calls.specs.Calls.{reading, asCall}
-use Rattle.whole_run.specs.World.{settingsFor, User, returned, viewAfter, newReads, after, readEvents}
+use Rattle.whole_run.specs.World.{settingsFor, User, sentBy, returned, viewAfter, newReads, after, readEvents}
+use Rattle.whole_run.proofs.Requests.{sent-kind, read-kind}
 use Rattle.fork_bound.proofs.Noted.{Whole, Hashed, Within, all-hashed}
 use Rattle.fork_bound.proofs.Histories.{Known}
 use Rattle.fork_bound.proofs.States.{ReadOk, UserOk}
@@ -37,9 +39,14 @@ module _ (W : Whole) (own : ℕ) (u : User) (ok : UserOk W own u) where
   abbrev Keeps : Outcome Read → Type 0
   Keeps o = o .step .code ≡ 0 → Within W (readEvents (u .state .kept .version) o) → UserOk W own (after u (asCall reading o))
 
-  asks-ok : (m : Lent) (r : Read) → r .length ≤ 1026 → UserOk W own (after u (asCall reading (readAsks s (u .state) m r)))
-  unfolding after readAsks asking returned viewAfter newReads
-  asks-ok m r h = record { seen = ok .seen; state = ok .state; call = h }
+  asks-ok : (m : Lent) (r : Read) → requestRoom (m .request) ≡ true → r .length ≤ 1026
+      → UserOk W own (after u (asCall reading (readAsks s (u .state) m r)))
+  unfolding after readAsks asking returned viewAfter newReads sentBy requestRoom
+  asks-ok m r room h =
+      let n = leb-true 2566 (length (m .request)) room in
+      let pull = read-kind (W .group .servers) (u .state .kept .version) r in
+      let sent = sent-kind s (readWant (W .group .servers) (u .state .kept .version) r) [] (m .request) (W .named) (omega arith) (omega arith) in
+      record { seen = ok .seen; state = ok .state; call = h; out = λ e. absurd (omega arith) }
 
   -- what a Read that gives the digest has read is in every history with that digest
   read-ok : Known W → (k : Kept) (r : Read) (hashes held : List ℕ) → 1 ≤ r .position → r .position ≤ k .version
@@ -59,7 +66,7 @@ module _ (W : Whole) (own : ℕ) (u : User) (ok : UserOk W own u) where
 
   ends-ok : (m : Lent) (r : Read) → 1 ≤ r .position → r .position ≤ u .state .kept .version → r .length ≤ 1026 → 1024 ≤ length (m .entry)
       → readGives (u .state .kept) r (m .hashes) (m .held) ≡ true → Keeps (readEnds (u .state) m r)
-  unfolding after readEnds done returned viewAfter newReads readEvents
+  unfolding after readEnds done returned viewAfter newReads readEvents sentBy
   ends-ok m r some within small room e _ f =
       let k = u .state .kept in
       let i = ok .state in
@@ -82,6 +89,7 @@ module _ (W : Whole) (own : ℕ) (u : User) (ok : UserOk W own u) where
               ];
         };
         call = tt;
+        out = λ e. absurd (omega arith);
       }
 
   -- an answer that a Read takes in
@@ -92,12 +100,15 @@ module _ (W : Whole) (own : ℕ) (u : User) (ok : UserOk W own u) where
       let m = u .lent in
       by-taken s σ m r a Keeps (λ n z. absurd (n z))
       (λ t l e. ends-ok (collected s σ m r a) (next s σ m r a) (t .some) (t .within) (next-small s σ m r a t h) (t .room) e)
-      (λ t _ _ _. asks-ok (collected s σ m r a) (next s σ m r a) (next-small s σ m r a t h))
+      (λ t _ _ _. asks-ok (collected s σ m r a) (next s σ m r a) (t .request-room) (next-small s σ m r a t h))
 
   pub read-started-ok : (m : Lent) (p : ℕ) → readStarted s (u .state) m p .step .code ≡ 0
       → UserOk W own (after u (asCall reading (readStarted s (u .state) m p)))
-  unfolding readStarted refused freshRead
+  unfolding readStarted readChecks userSetupChecks refused freshRead
   read-started-ok m p =
       let code = firstCode (readChecks s (u .state .kept) p m) in
       by-cond (λ o. o .step .code ≡ 0 → UserOk W own (after u (asCall reading o))) (eqb code 0) _ _
-      (λ _ _. asks-ok m (freshRead p) (omega arith)) (λ e z. absurd (eqb-false code 0 e z))
+      (λ e _.
+      let room = setup-passed s (u .state .kept) (requestRoom (m .request) && leb 1024 (length (m .entry))) _ (eqb-true code 0 e) .1 in
+      asks-ok m (freshRead p) (and-true (requestRoom (m .request)) _ room .0) (omega arith))
+      (λ e z. absurd (eqb-false code 0 e z))

@@ -10,7 +10,7 @@ use Rattle.tree.specs.Label.{owner}
 use Rattle.tree.specs.Expr.{value}
 use Rattle.tree.specs.Tree.{digest}
 use Rattle.tree.specs.Cover.{coverDigest}
-use Rattle.tree.specs.Message.{request, requestPosition}
+use Rattle.tree.specs.Message.{request, requestKind, requestPosition}
 use Rattle.tree.proofs.Agree.{AllIn}
 use Rattle.tree.proofs.Covers.{cover-gives-digest}
 use Rattle.user.specs.Outcome.{State}
@@ -19,10 +19,10 @@ use Rattle.user_update.proofs.UpdateRules.{Above}
 use Rattle.user_write.specs.declared.call.Write.{Write}
 use Rattle.user_write.specs.Write.{commitNumber, pathDigest}
 use Rattle.user_read.specs.Read.{textAuthor, textEntry}
-use Rattle.user_calls.specs.Calls.{Call, idle, updating, writing, reading}
+use Rattle.user_calls.specs.Calls.{Call, idle, updating, writing, reading, givingUp}
 use Rattle.whole_run.specs.World.{Event, hashed, signed, accepted, handedOut, answered, Sent, Reading, User}
 use Rattle.fork_bound.proofs.Noted.{Whole, Hashed}
-use Rattle.fork_bound.proofs.Histories.{Signs, SignedAt, Took, Reserved, Established, Link, Signed, Known, established-shorter, established-longer, established-agree, extend, extend-old}
+use Rattle.fork_bound.proofs.Histories.{SignedAt, SignedBy, Established, Link, Signed, Known, established-shorter, established-longer, established-agree, extend, extend-old}
 
 module _ (W : Whole) where
   -- reads of a view of v entries with digest τ: each is in every established history that has this digest
@@ -57,14 +57,14 @@ module _ (W : Whole) where
       }
 
   -- and when an entry of the user's own is committed
-  pub reads-commit : Known W → (own v : ℕ) (τ δ : List ℕ) (rs : List Reading) → v ≤ 1048576 → Link W v τ δ → Reserved W own (suc v) δ
+  pub reads-commit : Known W → (own v : ℕ) (τ δ : List ℕ) (rs : List Reading) → v ≤ 1048576 → Link W v τ δ → SignedBy W own (suc v) δ
       → (0 < v → SignedAt W v τ) → ReadsOk v τ rs → ReadsOk (suc v) δ rs
-  reads-commit K own v τ δ rs small link reserved kept ok r m =
+  reads-commit K own v τ δ rs small link signs kept ok r m =
       let x = ok r m in
       let b = x .some in
       let c = x .within in
       let f = K .history v τ (omega arith) small (kept (omega arith)) in
-      let y = established-longer W (K .free) v τ δ link own (f .0) (f .1) (λ z. f .2) reserved in
+      let y = established-longer W (K .free) v τ δ link own (f .0) (f .1) (λ z. f .2) signs in
       let old = x .true-read (f .0) (f .1) (f .2) in
       record {
         some = b;
@@ -84,16 +84,12 @@ openPosition σ = suc (σ .kept .version)
 abbrev pub openDigest : State → List ℕ
 openDigest σ = pathDigest (openPosition σ) (σ .path)
 
--- an answer to the request x is H's if the request went to H
-abbrev pub FromH : Whole → Sent → List ℕ → Type 0
-FromH W x a = x .server ≡ W .group .follows → List·Memᴰ (answered (W .group .follows) (x .bytes) a) (W .world .log)
-
 -- user number own
 module _ (W : Whole) (own : ℕ) where
   -- an open write
   pub record OpenOk (σ : State) : Type 0 where
     pub link : Link W (σ .kept .version) (σ .kept .digest) (openDigest σ)
-    pub done : σ .kept .signed ≡ true → Signs W own (openPosition σ) (openDigest σ) × Reserved W own (openPosition σ) (openDigest σ)
+    pub done : σ .kept .signed ≡ true → SignedBy W own (openPosition σ) (openDigest σ)
 
   pub record StateOk (σ : State) (rs : List Reading) : Type 0 where
     pub small : σ .kept .version ≤ 1048576
@@ -103,16 +99,9 @@ module _ (W : Whole) (own : ℕ) where
     pub open-write : σ .kept .opened ≡ true → OpenOk σ
     pub reads : Known W → ReadsOk W (σ .kept .version) (σ .kept .digest) rs
 
-  -- H accepted the Reserves below j of an open write
-  abbrev pub TookBelow : State → ℕ → Type 0
-  TookBelow σ j =
-      (l : ℕ) → l < j → l ≤ lg (openPosition σ) → owner (W .group .servers) (openPosition σ) l ≡ W .group .follows
-      → Took W own (openPosition σ) l (openDigest σ)
-
-  -- the call of an open write, j of whose requests are answered: H accepted the Reserves so far, the Commit goes out signed, and the
-  -- request that is out is for the open position; a Reserve that goes to H has these bytes
+  -- the call of an open write, j of whose requests are answered: the Commit goes out signed, and the request that is out is for the open
+  -- position; a Reserve that is out has these bytes
   pub record GoesOk (σ : State) (x : Sent) (j : ℕ) : Type 0 where
-    pub took : TookBelow σ j
     pub signs : commitNumber (openPosition σ) ≤ j → σ .kept .signed ≡ true
     pub position : requestPosition (x .bytes) ≡ openPosition σ
     pub asks : j ≤ lg (openPosition σ)
@@ -130,16 +119,27 @@ module _ (W : Whole) (own : ℕ) where
   CallOk σ x (updating c) = UpdateOk W (σ .kept .version) c
   CallOk σ x (writing w) = WriteOk σ x w
   CallOk σ x (reading r) = r .length ≤ 1026
+  CallOk σ x (givingUp g) = (requestPosition (x .bytes) ≡ openPosition σ) × (σ .kept .signed ≡ false)
+
+  -- only a give-up hands out requests of kind 9
+  abbrev pub GivingUp : Call → Type 0
+  GivingUp idle = ⊥
+  GivingUp (updating c) = ⊥
+  GivingUp (writing w) = ⊥
+  GivingUp (reading r) = ⊥
+  GivingUp (givingUp g) = Unit {0}
 
   pub record UserOk (u : User) : Type 0 where
     pub seen : u .view ≡ u .state .kept .version
     pub state : StateOk (u .state) (u .reads)
     pub call : CallOk (u .state) (u .sent) (u .call)
+    pub out : requestKind (u .sent .bytes) ≡ 9 → GivingUp (u .call)
 
--- What stands behind an event that a user's step notes: behind a signature a history. A server's answers are not a user's events.
-abbrev pub Behind : Whole → Event → Type 0
-Behind W (hashed t) = Unit {0}
-Behind W (signed a t) = Signed W a t
-Behind W (accepted a t) = Unit {0}
-Behind W (handedOut a s q) = Unit {0}
-Behind W (answered s q x) = ⊥
+-- What stands behind an event that is noted of a user's step beside the request handed out: behind a signature of its own a history. A
+-- server's answers are not a user's events.
+abbrev pub Behind : Whole → ℕ → Event → Type 0
+Behind W own (hashed t) = Unit {0}
+Behind W own (signed a t) = (a ≡ own) × Signed W a t
+Behind W own (accepted a t) = Unit {0}
+Behind W own (handedOut a s q) = ⊥
+Behind W own (answered s q x) = ⊥

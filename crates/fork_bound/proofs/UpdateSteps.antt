@@ -153,7 +153,8 @@ module _ (W : Whole) (own : ℕ) where
         → UserOk W own (after u (asCall updating (goingOn s (u .state) m c)))
     unfolding after asking returned viewAfter newReads
     update-asks-ok m c room i =
-        record { seen = view-left _ (u .view) (pulls (u .state) m c room) ∙ ok .seen; state = ok .state; call = i }
+        let pull = pulls (u .state) m c room in
+        record { seen = view-left _ (u .view) pull ∙ ok .seen; state = ok .state; call = i; out = λ e. absurd (omega arith) }
 
     -- an answer that an Update takes in
     module _ (c : Update) (a : List ℕ) (i : UpdateOk W (u .state .kept .version) c) where
@@ -175,7 +176,7 @@ module _ (W : Whole) (own : ℕ) where
           let o = endedWith (u .state) (collected W c a (u .lent)) (nextUpdate W c a) in
           let h = within-left W (coverNoted (u .state .kept .version) o) (recordAccepted s c (o .call) a) f in
           let x = arrives (u .state) (u .lent) c a t i (goes-ok t o refl f) e (cover-hashed _ _ _ h) (u .reads) (ok .state) in
-          record { seen = sym (arrives-at s (u .state) (u .lent) c a t e); state = x .state; call = tt }
+          record { seen = sym (arrives-at s (u .state) (u .lent) c a t e); state = x .state; call = tt; out = λ e. absurd (omega arith) }
 
       pub update-taken-ok : Keeps (updateTaken s (u .state) (u .lent) c a)
       unfolding refused

@@ -9,7 +9,7 @@ use lib.ListN.{length}
 use borrow.Author.Tests.{eq-eqb, eqb-true, leb-true}
 use Rattle.tree.specs.Message.{request, requestKind, requestPosition, signedText}
 use Rattle.tree.specs.Setup.{Settings, firstCode}
-use Rattle.tree.proofs.Cases.{by-eqb, cases-eq, not-both}
+use Rattle.tree.proofs.Cases.{by-eqb, not-both}
 use Rattle.tree.proofs.CheckLists.{check-passes}
 use Rattle.user.specs.Asking.{userSetupChecks, requestRoom, ofNode, refused, done, asking}
 use Rattle.user.specs.declared.call.Kept.{Kept}
@@ -17,13 +17,13 @@ use Rattle.user.specs.Outcome.{State, withKept, Lent, Outcome, nothing, ending}
 use Rattle.user_write.specs.declared.call.Write.{Write}
 use Rattle.user_write.specs.Write.{openedAt, commitNumber, pathDigest, writeKind, writeWant, writeBody, heldEntry, writeAsks, writeRoom, signsNext, writeChecks, writeSignature, signing, committed, goesOn, writeGoes}
 use Rattle.user.proofs.Passed.{setup-passed, answer-passed, or-cases, by-cond}
-use Rattle.user_write.proofs.WriteRules.{signs-last, Going, by-going, reserve-sent, commit-late}
+use Rattle.user_write.proofs.WriteRules.{signs-last, Going, by-going, reserve-sent}
 use Rattle.user_calls.specs.Calls.{writing, asCall}
 use Rattle.whole_run.specs.World.{settingsFor, Event, signed, Sent, User, sentBy, returned, viewSent, viewAfter, newReads, after, recordAccepted, openingHashed, writeSigned, writeEvents}
 use Rattle.whole_run.proofs.Requests.{sent-kind, sent-position, write-kind, body-short, room-passed, signature-sized}
 use Rattle.fork_bound.proofs.Noted.{Whole, Within}
-use Rattle.fork_bound.proofs.Histories.{Signs, Reserved, Signed}
-use Rattle.fork_bound.proofs.States.{FromH, openPosition, openDigest, TookBelow, StateOk, WriteOk, UserOk, reads-commit}
+use Rattle.fork_bound.proofs.Histories.{Signs, Signed}
+use Rattle.fork_bound.proofs.States.{openPosition, openDigest, StateOk, WriteOk, UserOk, reads-commit}
 
 -- The view after a request of a write for v + 1: a Reserve sets it to v, and it was there before any other.
 view-set : (x : Sent) (view v : ℕ) → requestPosition (x .bytes) ≡ suc v → ((requestKind (x .bytes) ≡ 5 → ⊥) → view ≡ v) → viewSent x view ≡ v
@@ -60,10 +60,10 @@ module _ (W : Whole) (own : ℕ) (u : User) where
   pub write-asks-ok : (σ : State) (m : Lent) (w : Write) → requestRoom (m .request) ≡ true → w .opened ≡ true → w .length ≤ 1024
       → length (w .randomizer) ≡ 32 → StateOk W own σ (u .reads)
       → ((writeKind (openPosition σ) (w .answers) ≡ 5 → ⊥) → u .view ≡ σ .kept .version)
-      → TookBelow W own σ (w .answers) → (commitNumber (openPosition σ) ≤ w .answers → σ .kept .signed ≡ true)
+      → (commitNumber (openPosition σ) ≤ w .answers → σ .kept .signed ≡ true)
       → UserOk W own (after u (asCall writing (writeAsks s σ m w)))
   unfolding after writeAsks asking sentBy returned viewAfter newReads writeWant ofNode requestRoom
-  write-asks-ok σ m w room opened short random i seen took signs =
+  write-asks-ok σ m w room opened short random i seen signs =
       let p = openPosition σ in
       let small = i .small in
       let want = writeWant (s .servers) p (w .answers) in
@@ -71,7 +71,7 @@ module _ (W : Whole) (own : ℕ) (u : User) where
       let r = leb-true 2566 (length (m .request)) room in
       let b = body-short p (w .answers) w σ (m .held) short (i .sized) in
       let at-p = sent-position s want body (m .request) (W .named) (omega arith) (omega arith) in
-      let of-kind = sent-kind s want body (m .request) (W .named) (omega arith) (write-kind p (w .answers)) in
+      let of-kind = sent-kind s want body (m .request) (W .named) (omega arith) (omega (arith, write-kind p (w .answers))) in
       record {
         seen = view-set _ _ _ at-p (λ e. seen (λ i. e (of-kind ∙ i)));
         state = i;
@@ -79,13 +79,13 @@ module _ (W : Whole) (own : ℕ) (u : User) where
           short = short;
           random = random;
           waits = λ c. not-both (w .opened) opened c;
-          goes = λ _. record { took = took; signs = signs; position = at-p; asks = λ h. reserve-sent s σ m w (W .named) room h };
+          goes = λ _. record { signs = signs; position = at-p; asks = λ h. reserve-sent s σ m w (W .named) room h };
         };
+        out = λ e. absurd (omega (arith, of-kind, write-kind p (w .answers)));
       }
 
   -- an open write takes in an answer
-  module _ (ok : UserOk W own u) (w : Write) (a : List ℕ) (i : WriteOk W own (u .state) (u .sent) w) (isOpen : w .opened ≡ true)
-      (fair : FromH W (u .sent) a) where
+  module _ (ok : UserOk W own u) (w : Write) (a : List ℕ) (i : WriteOk W own (u .state) (u .sent) w) (isOpen : w .opened ≡ true) where
     abbrev σ : State
     σ = u .state
 
@@ -96,29 +96,9 @@ module _ (W : Whole) (own : ℕ) (u : User) where
     δ = openDigest (u .state)
 
     module _ (g : Going s (u .state) (u .lent) w a) where
-      -- the Reserve that was answered now is taken too
-      took-now : TookBelow W own (u .state) (suc (w .answers))
-      took-now l h within o =
-          let ok = i .goes isOpen in
-          cases-eq l (w .answers)
-          (λ e.
-          let x = ok .asks (omega arith) in
-          let server : u .sent .server ≡ W .group .follows = x .0 ∙ rw e at o in
-          let bytes : u .sent .bytes ≡ request 5 (s .log) own p l δ = x .1 ∙ rw e in
-          (a, rw bytes at (fair server), g .code))
-          (λ n. ok .took l (omega arith) within o)
-
-      all-reserved : suc (w .answers) ≡ commitNumber p → Reserved W own p δ
-      all-reserved e =
-          record {
-            listed = g .range .own;
-            within = g .range .opened (g .opened);
-            took = λ l h o. took-now l (omega (arith, commit-late p)) h o;
-          }
-
       -- what stands behind the text that is signed now
-      signed-now : signsNext (σ .kept) w ≡ true → Signed W own (signedText (s .log) p δ)
-      signed-now e =
+      signed-now : Signed W own (signedText (s .log) p δ)
+      signed-now =
           record {
             w = σ .kept .version;
             τ = σ .kept .digest;
@@ -126,7 +106,8 @@ module _ (W : Whole) (own : ℕ) (u : User) where
             is = refl;
             before = ok .state .kept;
             link = ok .state .open-write (g .opened) .link;
-            reserved = all-reserved (signs-last (σ .kept) w e);
+            listed = g .range .own;
+            within = g .range .opened (g .opened);
           }
 
       signed-then : commitNumber p ≤ suc (w .answers) → (w .answers ≡ commitNumber p → ⊥) → σ .kept .signed || signsNext (σ .kept) w ≡ true
@@ -163,13 +144,14 @@ module _ (W : Whole) (own : ℕ) (u : User) where
             small = g .range .opened (g .opened);
             room = state .room;
             sized = state .sized;
-            kept = λ _ _. (own, signs .0);
+            kept = λ _ _. (own, signs .signs);
             open-write = λ o. not-both false o refl;
             reads = λ K.
-                reads-commit W K own (σ .kept .version) (σ .kept .digest) δ (u .reads) (state .small) (open-write .link) (signs .1) (state .kept)
+                reads-commit W K own (σ .kept .version) (σ .kept .digest) δ (u .reads) (state .small) (open-write .link) signs (state .kept)
                 (state .reads K);
           };
           call = tt;
+          out = λ e. absurd (omega arith);
         }
 
     -- the next request goes out
@@ -194,11 +176,11 @@ module _ (W : Whole) (own : ℕ) (u : User) where
           open-write = λ _. record {
             link = open-write .link;
             done = λ t. or-cases (σ .kept .signed) (signsNext (σ .kept) w) t (λ y. open-write .done y)
-                (λ y. (signs-now y f, all-reserved g (signs-last (σ .kept) w y)));
+                (λ y. record { listed = g .range .own; within = g .range .opened (g .opened); signs = signs-now y f });
           };
           reads = state .reads;
         })
-        (λ _. ok .seen) (took-now g) (λ h. signed-then g h ne)
+        (λ _. ok .seen) (λ h. signed-then g h ne)
 
     passed : writeGoes s σ (u .lent) w a .step .code ≡ 0 → firstCode (writeChecks s (σ .kept) (u .lent) w a) ≡ 0
     unfolding writeGoes refused
@@ -210,7 +192,7 @@ module _ (W : Whole) (own : ℕ) (u : User) where
     unfolding refused
     write-goes-ok z = by-going s σ (u .lent) w a (WriteKeeps w a) (λ n z. absurd (n z)) committed-ok (goes-on-ok (passed z)) z
 
-    -- a signature is made only of the digest of the user's own path, all of whose Reserves H has accepted that are its own to accept
+    -- a signature is made only of the digest of the user's own path
     abbrev SignsRightly : Outcome Write → Type 0
     SignsRightly o =
         o .step .code ≡ 0 → signsNext (σ .kept) w ≡ true → Signed W own (signedText (s .log) p (pathDigest p (o .state .path)))
@@ -219,4 +201,4 @@ module _ (W : Whole) (own : ℕ) (u : User) where
     unfolding refused writeAsks goesOn
     signs-rightly =
         by-going s σ (u .lent) w a SignsRightly (λ n z. absurd (n z))
-        (λ g e _ n. let x = signs-last (σ .kept) w n in absurd (omega arith)) (λ g _ _ n. signed-now g n)
+        (λ g e _ n. let x = signs-last (σ .kept) w n in absurd (omega arith)) (λ g _ _ n. signed-now g)

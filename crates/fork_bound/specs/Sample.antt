@@ -1,5 +1,6 @@
 -- A computed run: on two servers, of which server 1 follows the rules, user 1 begins a write of position 1.
 use mathlib.Core.Path.{_≡_, refl}
+use mathlib.Core.Bool.{true, false}
 use mathlib.Core.List.{List, [], _∷_}
 use Prim.Native.Nat.{ℕ}
 use lib.ListN.{replicate}
@@ -21,6 +22,7 @@ use Rattle.user_update.specs.Update as Up
 use Rattle.firing.specs.Entry as En
 use Rattle.firing.specs.Schedule as Fi
 use Rattle.user_write.specs.Write as Wr
+use Rattle.user_give_up.specs.GiveUp as Gi
 use Rattle.user_calls.specs.Calls as Ca
 use Rattle.server.specs.Shape as Sh
 use Rattle.server.specs.Store as St
@@ -78,11 +80,32 @@ server-1-reserves = Ru.server 1 (out reserves) (replicate 2552 0) ∷ reserves
 abbrev puts : List Ru.Step
 puts = Ru.user 1 (Ca.answer reserved) ∷ server-1-reserves
 
--- User 1 asks server 1 for its Status, of the empty log, and server 1 answers; user 1, whose Update ends at p* = 0, hands out the first Reserve; server 1 accepts it, and
--- user 1 goes on with the PutOperation.
+-- User 1 asks server 1 for its Status, of the empty log, and server 1 answers; user 1, whose Update ends at p* = 0, hands out the first
+-- Reserve; server 1 accepts it, and user 1 goes on with the PutOperation.
 write-begins : (Ru.run group zeros-first server-1-answers .log
     ≡ Wo.answered 1 (out asks-server-1) (fresh 1) ∷ Wo.handedOut 1 1 (out asks-server-1) ∷ [])
     × (Me.requestKind (out reserves) ≡ 5) × (Ru.run group zeros-first server-1-reserves .servers 1 .head .position ≡ 1)
     × (Me.requestKind (out puts) ≡ 6)
-unfolding Le.leastFrom Le.reaches Le.lg Le.isFull Le.highestFull La.nodesTo La.label La.serverOf La.owner Ex.entryText Ex.leafString Ex.pairString Ex.halfString Ex.value Tr.tree Tr.blockOf Tr.node Co.fits Co.tileLevel Co.tilesIn Co.tiles Co.peaks Co.cover Co.piece Co.cut Co.covers Co.nodesBefore Co.fromCover Co.coverDigest Co.coverPath Co.pathBytes Co.pathWritten Me.requestHeader Me.request Me.answerHeader Me.answer Me.recordHeader Me.stored Me.signedText Se.userCount Se.userKey Se.listed Se.groupFits Se.inLog Se.firstCode By.be By.numberAt By.written By.eqs As.userSettingsFit As.keptFits As.userSetupChecks As.requestRoom As.ofNode As.ofStatus As.asks As.headed As.answerBodyFits As.isAnswer As.answerChecks As.refused As.done As.asking Ou.nothing Up.freshUpdate Up.updateAnswers Up.updateEnded Up.updateWant Up.toldPosition Up.toldLevel Up.toldLabel Up.headHolds Up.statusTaken Up.updateNext Up.updateHashes Up.recordHolds Up.coverGivesOwn Up.coverGivesNew Up.updateChecks Up.arrived Up.updateGoes Up.updateSetup Up.updateStarted Up.updateEarly Up.updateTaken En.strikes En.isSchedule En.entryFits Fi.rulesKept Wr.targetFits Wr.ownLeaf Wr.commitNumber Wr.writeKind Wr.writeLevel Wr.writeWant Wr.pathDigest Wr.writeBody Wr.heldEntry Wr.writeAsks Wr.writeWaits Wr.writeRoom Wr.writeStartChecks Wr.freshWrite Wr.writeStarted Wr.openingChecks Wr.opening Wr.writeOpens Wr.writeUpdates Wr.signsNext Wr.writeChecks Wr.commitSignature Wr.writeSignature Wr.goesOn Wr.signing Wr.committed Wr.writeGoes Wr.writeTaken Sh.levelFits Sh.nodeFits Sh.requestBodyFits Sh.kindFits Sh.requestFits Sh.recordFits St.recordLength St.recordsIn St.records St.sizes St.whole St.isFor St.first St.isStored Ch.serverSettingsFit Ch.headFits Ch.storeFits Ch.ownsNode Ch.reservable Ch.holdsHead Ch.commitHolds Ch.recordAsked Ch.recordFound Ch.noOther Ch.roomLeft Ch.nodeSource Ch.pullSource Ch.kindChecks Ch.serverSetupChecks Ch.checksOver Ch.requestChecks Sv.headAfter Sv.appends Sv.storeAfter Sv.usedAfter Sv.nodeHash Sv.recordGiven Sv.bodyGiven Sv.headerGiven Sv.answerGiven Sv.refusedSetup Sv.served Wo.sentBy Wo.returned Wo.viewSent Wo.viewAfter Wo.newReads Wo.after Wo.coverStrings Wo.recordAccepted Wo.updateEvents Wo.openingHashed Wo.writeSigned Wo.writeEvents Wo.readEvents Wo.answerEvents Wo.acceptedEvents Wo.handedEvents Wo.eventsOf Wo.userStep Ca.strayCode Ca.taken Ca.stepped Ru.newUser Ru.newHead Ru.newServer Ru.newWorld Ru.serverAfter Ru.withUser Ru.serverEvents Ru.withServer Ru.step Ru.run ¬32 SHL SHR ROTR Ch Maj Σ0 Σ1 σ0 σ1 K H0 nextW schedule T1 T2 round rounds sums compress zeros padding pad words block hashValue bytes sha256
+unfolding Le.leastFrom Le.reaches Le.lg Le.isFull Le.highestFull La.nodesTo La.label La.serverOf La.owner Ex.entryText Ex.leafString Ex.pairString Ex.halfString Ex.value Tr.tree Tr.blockOf Tr.node Co.fits Co.tileLevel Co.tilesIn Co.tiles Co.peaks Co.cover Co.piece Co.cut Co.covers Co.nodesBefore Co.fromCover Co.coverDigest Co.coverPath Co.pathBytes Co.pathWritten Me.requestHeader Me.request Me.answerHeader Me.answer Me.recordHeader Me.stored Me.signedText Se.userCount Se.userKey Se.listed Se.groupFits Se.inLog Se.firstCode By.be By.numberAt By.written By.eqs As.userSettingsFit As.progressFits As.openFits As.keptFits As.userFits As.userSetupChecks As.requestRoom As.ofNode As.ofStatus As.asks As.headed As.answerBodyFits As.isServerCode As.isAnswer As.answerChecks As.refused As.done As.asking Ou.noProgress Ou.nothing Up.freshUpdate Up.updateAnswers Up.updateEnded Up.updateWant Up.toldPosition Up.toldLevel Up.toldLabel Up.headHolds Up.statusTaken Up.updateNext Up.updateHashes Up.recordHolds Up.coverGivesOwn Up.coverGivesNew Up.updateChecks Up.arrived Up.updateGoes Up.updateSetup Up.updateStarted Up.updateEarly Up.updateTaken En.strikes En.isSchedule En.entryFits Fi.rulesKept Wr.targetFits Wr.ownLeaf Wr.commitNumber Wr.writeKind Wr.writeLevel Wr.writeWant Wr.pathDigest Wr.writeBody Wr.heldEntry Wr.writeAsks Wr.writeWaits Wr.writeRoom Wr.writeStartChecks Wr.freshWrite Wr.writeStarted Wr.openingChecks Wr.handing Wr.opening Wr.writeOpens Wr.writeUpdates Wr.signsNext Wr.writeChecks Wr.commitSignature Wr.writeSignature Wr.goesOn Wr.signing Wr.committed Wr.writeGoes Wr.writeTaken Sh.levelFits Sh.nodeFits Sh.isStoredKind Sh.requestBodyFits Sh.kindFits Sh.requestFits Sh.recordFits St.recordLength St.recordsIn St.records St.sizes St.whole St.isFor St.first St.isStored Ch.serverSettingsFit Ch.placeFits Ch.earlierFits Ch.headFits Ch.storeFits Ch.ownsNode Ch.isHeads Ch.reservable Ch.isGivable Ch.holdsHead Ch.commitHolds Ch.recordAsked Ch.recordFound Ch.noOther Ch.roomLeft Ch.nodeSource Ch.pullSource Ch.kindChecks Ch.serverSetupChecks Ch.checksOver Ch.requestChecks Sv.noneEarlier Sv.asEarlier Sv.reservedHead Sv.broughtBack Sv.headAfter Sv.appends Sv.storeAfter Sv.usedAfter Sv.nodeHash Sv.recordGiven Sv.bodyGiven Sv.headerGiven Sv.answerGiven Sv.refusedSetup Sv.served Wo.sentBy Wo.returned Wo.viewSent Wo.viewAfter Wo.newReads Wo.after Wo.coverStrings Wo.recordAccepted Wo.updateEvents Wo.openingHashed Wo.writeSigned Wo.writeEvents Wo.readEvents Wo.answerEvents Wo.acceptedEvents Wo.handedEvents Wo.eventsOf Wo.userStep Ca.strayCode Ca.taken Ca.stepped Ru.newUser Ru.newHead Ru.newServer Ru.newWorld Ru.serverAfter Ru.withUser Ru.serverEvents Ru.withServer Ru.step Ru.run ¬32 SHL SHR ROTR Ch Maj Σ0 Σ1 σ0 σ1 K H0 nextW schedule T1 T2 round rounds sums compress zeros padding pad words block hashValue bytes sha256
 write-begins = (refl, refl, refl, refl)
+
+-- Before that, user 1 may give the write up: server 1 is told with level 0, the only one that a Reserve was handed out for, and its head is
+-- (0, 0) again; with its answer the write is closed.
+abbrev gives-up : List Ru.Step
+gives-up = Ru.user 1 (Ca.startGiveUp memory) ∷ server-1-reserves
+
+abbrev server-1-gives-up : List Ru.Step
+server-1-gives-up = Ru.server 1 (out gives-up) (replicate 2552 0) ∷ gives-up
+
+abbrev given-up : List ℕ
+given-up = 75 ∷ 65 ∷ 9 ∷ 1 ∷ 0 ∷ 0 ∷ 0 ∷ 1 ∷ 0 ∷ 0 ∷ []
+
+abbrev closes : List Ru.Step
+closes = Ru.user 1 (Ca.answer given-up) ∷ server-1-gives-up
+
+write-given-up : (Me.requestKind (out gives-up) ≡ 9) × (Me.requestLevel (out gives-up) ≡ 0)
+    × (Ru.run group zeros-first server-1-gives-up .servers 1 .head .position ≡ 0)
+    × (Ru.run group zeros-first gives-up .users 1 .state .kept .progress .begun ≡ true)
+    × (Ru.run group zeros-first closes .users 1 .state .kept .opened ≡ false)
+unfolding Le.leastFrom Le.reaches Le.lg Le.isFull Le.highestFull La.nodesTo La.label La.serverOf La.owner Ex.entryText Ex.leafString Ex.pairString Ex.halfString Ex.value Tr.tree Tr.blockOf Tr.node Co.fits Co.tileLevel Co.tilesIn Co.tiles Co.peaks Co.cover Co.piece Co.cut Co.covers Co.nodesBefore Co.fromCover Co.coverDigest Co.coverPath Co.pathBytes Co.pathWritten Me.requestHeader Me.request Me.answerHeader Me.answer Me.recordHeader Me.stored Me.signedText Se.userCount Se.userKey Se.listed Se.groupFits Se.inLog Se.firstCode By.be By.numberAt By.written By.eqs As.userSettingsFit As.progressFits As.openFits As.keptFits As.userFits As.userSetupChecks As.requestRoom As.ofNode As.ofStatus As.asks As.headed As.answerBodyFits As.isServerCode As.isAnswer As.answerChecks As.refused As.done As.asking Ou.noProgress Ou.nothing Up.freshUpdate Up.updateAnswers Up.updateEnded Up.updateWant Up.toldPosition Up.toldLevel Up.toldLabel Up.headHolds Up.statusTaken Up.updateNext Up.updateHashes Up.recordHolds Up.coverGivesOwn Up.coverGivesNew Up.updateChecks Up.arrived Up.updateGoes Up.updateSetup Up.updateStarted Up.updateEarly Up.updateTaken En.strikes En.isSchedule En.entryFits Fi.rulesKept Wr.targetFits Wr.ownLeaf Wr.commitNumber Wr.writeKind Wr.writeLevel Wr.writeWant Wr.pathDigest Wr.writeBody Wr.heldEntry Wr.writeAsks Wr.writeWaits Wr.writeRoom Wr.writeStartChecks Wr.freshWrite Wr.writeStarted Wr.openingChecks Wr.handing Wr.opening Wr.writeOpens Wr.writeUpdates Wr.signsNext Wr.writeChecks Wr.commitSignature Wr.writeSignature Wr.goesOn Wr.signing Wr.committed Wr.writeGoes Wr.writeTaken Sh.levelFits Sh.nodeFits Sh.isStoredKind Sh.requestBodyFits Sh.kindFits Sh.requestFits Sh.recordFits St.recordLength St.recordsIn St.records St.sizes St.whole St.isFor St.first St.isStored Ch.serverSettingsFit Ch.placeFits Ch.earlierFits Ch.headFits Ch.storeFits Ch.ownsNode Ch.isHeads Ch.reservable Ch.isGivable Ch.holdsHead Ch.commitHolds Ch.recordAsked Ch.recordFound Ch.noOther Ch.roomLeft Ch.nodeSource Ch.pullSource Ch.kindChecks Ch.serverSetupChecks Ch.checksOver Ch.requestChecks Sv.noneEarlier Sv.asEarlier Sv.reservedHead Sv.broughtBack Sv.headAfter Sv.appends Sv.storeAfter Sv.usedAfter Sv.nodeHash Sv.recordGiven Sv.bodyGiven Sv.headerGiven Sv.answerGiven Sv.refusedSetup Sv.served Wo.sentBy Wo.returned Wo.viewSent Wo.viewAfter Wo.newReads Wo.after Wo.coverStrings Wo.recordAccepted Wo.updateEvents Wo.openingHashed Wo.writeSigned Wo.writeEvents Wo.readEvents Wo.answerEvents Wo.acceptedEvents Wo.handedEvents Wo.eventsOf Wo.userStep Ca.strayCode Ca.taken Ca.stepped Ru.newUser Ru.newHead Ru.newServer Ru.newWorld Ru.serverAfter Ru.withUser Ru.serverEvents Ru.withServer Ru.step Ru.run ¬32 SHL SHR ROTR Ch Maj Σ0 Σ1 σ0 σ1 K H0 nextW schedule T1 T2 round rounds sums compress zeros padding pad words block hashValue bytes sha256 Gi.sentTo Gi.firstTold Gi.nextTold Gi.giveUpWant Gi.waiting Gi.noGiveUp Gi.giveUpSetup Gi.giveUpChecks Gi.beginning Gi.told Gi.closed Gi.giveUpGoes Gi.giveUpStarted Gi.giveUpTaken
+write-given-up = (refl, refl, refl, refl, refl)

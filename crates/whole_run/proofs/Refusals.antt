@@ -6,7 +6,7 @@ use Prim.Native.Nat.{ℕ}
 use borrow.Author.Tests.{eq-eqb, ne-eqb}
 use Rattle.tree.specs.Setup.{Settings}
 use Rattle.user.specs.Outcome.{Lent, Outcome}
-use Rattle.user_calls.specs.Calls.{Call, Input, startUpdate, startWrite, startRead, answer, stepped}
+use Rattle.user_calls.specs.Calls.{Call, Input, startUpdate, startWrite, startRead, startGiveUp, answer, stepped}
 use Rattle.user_calls.proofs.Refusals.{refusedStep, step-refusal, refused-state}
 use Rattle.whole_run.specs.World.{User, after, userStep}
 
@@ -26,12 +26,14 @@ abbrev pub lentTo : User → Input → Lent
 lentTo u (startUpdate m) = m
 lentTo u (startWrite m entry randomizer) = m
 lentTo u (startRead m i) = m
+lentTo u (startGiveUp m) = m
 lentTo u (answer a) = u .lent
 
 refused-lent : (u : User) (code : ℕ) (i : Input) → refusedStep code (u .state) (u .lent) (u .call) i .lent ≡ lentTo u i
 refused-lent u code (startUpdate m) = refl
 refused-lent u code (startWrite m entry randomizer) = refl
 refused-lent u code (startRead m i) = refl
+refused-lent u code (startGiveUp m) = refl
 refused-lent u code (answer a) = refl
 
 -- The outcome of a refused step has what is kept and that memory as they were.

@@ -29,6 +29,8 @@ use Rattle.user.specs.declared.ask.Want.{Want}
 use Rattle.user.specs.Asking.{requestRoom, ofNode, ofStatus, asks}
 use Rattle.user.specs.Outcome.{State, Key}
 use Rattle.user_update.specs.Update.{updateWant}
+use Rattle.user_read.specs.declared.call.Read.{Read}
+use Rattle.user_read.specs.Read.{readWant}
 use Rattle.firing.specs.Entry.{entryFits}
 use Rattle.user_write.specs.Write.{commitNumber, pathDigest, writeKind, writeLevel, writeBody, heldEntry, writeRoom, signsNext, commitSignature, writeSignature}
 use Rattle.user.proofs.Passed.{by-cond, sent-is}
@@ -68,12 +70,17 @@ update-kind n v c =
     (λ e. by-cond (λ (w : Want). w .kind < 5) (eqb (c .answers) n) _ _ (λ d. omega arith) (λ d. omega arith))
 
 -- the kinds of a write's requests, the first of them a Reserve
-pub write-kind : (p j : ℕ) → writeKind p j < 256
+pub write-kind : (p j : ℕ) → writeKind p j < 9
 unfolding writeKind
 write-kind p j =
-    by-cond (λ k. k < 256) (leb j (lg p)) 5 _ (λ e. omega arith)
-    (λ e. by-cond (λ k. k < 256) (eqb j (lg p + 1)) 6 _ (λ d. omega arith)
-    (λ d. by-cond (λ k. k < 256) (ltb j (commitNumber p)) 7 8 (λ c. omega arith) (λ c. omega arith)))
+    by-cond (λ k. k < 9) (leb j (lg p)) 5 _ (λ e. omega arith)
+    (λ e. by-cond (λ k. k < 9) (eqb j (lg p + 1)) 6 _ (λ d. omega arith)
+    (λ d. by-cond (λ k. k < 9) (ltb j (commitNumber p)) 7 8 (λ c. omega arith) (λ c. omega arith)))
+
+-- a Read asks for an entry or a node
+pub read-kind : (n v : ℕ) (r : Read) → readWant n v r .kind < 5
+unfolding readWant ofNode
+read-kind n v r = by-cond (λ (w : Want). w .kind < 5) (eqb (r .answers) 0) _ _ (λ _. omega arith) (λ _. omega arith)
 
 pub reserve-first : (p : ℕ) → writeKind p 0 ≡ 5
 unfolding writeKind

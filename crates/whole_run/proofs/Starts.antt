@@ -7,10 +7,12 @@ use lib.Dec.{eqb}
 use Rattle.tree.specs.Bytes.{written}
 use Rattle.tree.specs.Setup.{firstCode, Settings}
 use Rattle.tree.proofs.Cases.{by-bool}
-use Rattle.user.specs.Outcome.{State, stateOf, keyOf, Lent, lentOf, withHeld, withRequest, Outcome, refusal}
+use Rattle.user.specs.Outcome.{State, stateOf, withKept, keyOf, Lent, lentOf, withHeld, withRequest, Outcome, nothing, refusal, ending, handingOut}
 use Rattle.user_update.specs.Update.{freshUpdate, noUpdate, updateEnded, updateSetup, updateGoes, updateStarted}
 use Rattle.user_write.specs.declared.call.Write.{Write}
-use Rattle.user_write.specs.Write.{writeRoom, writeStartChecks, freshWrite, noWrite, heldEntry, writeAsks, writeWaits, writeStarted}
+use Rattle.user_give_up.specs.declared.call.GiveUp.{GiveUp}
+use Rattle.user_give_up.specs.GiveUp.{waiting, noGiveUp, nextTold, giveUpWant, giveUpSetup, beginning, closed, giveUpGoes, giveUpStarted}
+use Rattle.user_write.specs.Write.{pathDigest, writeRoom, writeStartChecks, freshWrite, noWrite, heldEntry, writeAsks, writeWaits, writeStarted}
 use Rattle.user_read.specs.Read.{readChecks, freshRead, noRead, readAsks, readStarted}
 use Rattle.user_update.proofs.UpdateRules.{endedWith, goingOn}
 use Rattle.user_write.proofs.Writes.{body-first}
@@ -55,6 +57,25 @@ module _ (s : Settings) (σ : State) (m : Lent) where
       by-bool (λ b. cond b (readAsks s σ m (freshRead i)) (refusal code [] σ m (noRead i))
       ≡ restored σ m (cond b (readAsks s σ₀ m₀ (freshRead i)) (refusal code [] σ₀ m₀ (noRead i))))
       (eqb code 0) (λ _. refl) (λ _. refl)
+
+  -- A give-up is lent the path and the request buffer.
+  pub give-up-start : giveUpStarted s σ m
+      ≡ restored σ m (giveUpStarted s (stateOf (σ .kept) (σ .path) []) (lentOf [] [] (m .request) [] (keyOf [] [] [])))
+  unfolding giveUpStarted giveUpGoes
+  give-up-start =
+      let σ₀ = stateOf (σ .kept) (σ .path) [] in
+      let m₀ = lentOf [] [] (m .request) [] (keyOf [] [] []) in
+      let code = firstCode (giveUpSetup s (σ .kept) (m .request)) in
+      let k = beginning (σ .kept) in
+      by-bool (λ b. cond b (giveUpGoes s (withKept σ k) m) (refusal code [] σ m noGiveUp)
+      ≡ restored σ m (cond b (giveUpGoes s (withKept σ₀ k) m₀) (refusal code [] σ₀ m₀ noGiveUp)))
+      (eqb code 0)
+      (λ _.
+      let asks : Lent → State → Outcome GiveUp =
+      λ l τ. handingOut s (giveUpWant (s .servers) k) (pathDigest (suc (k .version)) (σ .path)) (withKept τ k) l waiting in
+      let ends : Lent → State → Outcome GiveUp = λ l τ. ending nothing (withKept τ (closed k)) l noGiveUp in
+      by-bool (λ b. cond b (ends m σ) (asks m σ) ≡ restored σ m (cond b (ends m₀ σ₀) (asks m₀ σ₀))) (eqb (nextTold (s .servers) k) 0) (λ _. refl) (λ _. refl))
+      (λ _. refl)
 
   -- A Write is lent the path, the entry that it holds, which it changes, the request buffer and the key's tree.
   module _ (entry randomizer : List ℕ) where
