@@ -1,9 +1,10 @@
 -- A right answer to what a user asks for is well shaped, has code 0, and its body is read back.
 use mathlib.Core.Path.{_≡_, refl, ap, _∙_}
-use mathlib.Core.Bool.{Bool, true}
-use mathlib.Core.List.{List, _++_}
+use mathlib.Core.Bool.{Bool, true, cond}
+use mathlib.Core.List.{List, [], _++_, append-nil}
 use Prim.Native.Nat.{ℕ, _+_, _-_, _^_, _≤_, _<_}
 use native.Mathlib.Omega.{arith}
+use lib.Dec.{eqb}
 use lib.ListN.{length, length-append}
 use lib.Pow.{pow-mono}
 use lib.Seq.{take-at}
@@ -14,14 +15,14 @@ use Rattle.tree.specs.Level.{lg, isFull}
 use Rattle.tree.specs.Expr.{entryText}
 use Rattle.tree.specs.Message.{answerHeader, answer, answerCode, answerBody}
 use Rattle.tree.specs.Setup.{userCount, groupFits, Check, firstCode}
-use Rattle.tree.proofs.Cases.{and-true, cases-le, cases-eq}
+use Rattle.tree.proofs.Cases.{and-true, by-bool, cases-le, cases-eq}
 use Rattle.tree.proofs.Groups.{Group, group-fits}
 use Rattle.tree.proofs.Labels.{owner-range}
 use Rattle.tree.proofs.Levels.{lg-below, full-low}
 use Rattle.tree.proofs.Messages.{answer-header-length, answer-code, answer-body}
 use Rattle.user.specs.declared.ask.Want.{Want}
 use Rattle.user.specs.declared.call.Kept.{Kept}
-use Rattle.user.specs.Asking.{userSettingsFit, keptFits, ofNode, ofStatus, headed, answerBodyFits, isAnswer, answerChecks}
+use Rattle.user.specs.Asking.{userSettingsFit, keptFits, ofNode, ofStatus, headed, answerBodyFits, isServerCode, isAnswer, answerChecks}
 use Rattle.honest_run.specs.Network.{HonestSetup, publicTo, settingsIn}
 use Rattle.honest_run.proofs.Invariant.{Item, texts, digestOf, SignedOk, ItemOk, RightBody, CanAsk}
 use Rattle.honest_run.proofs.Log.{hash-size, digest-size}
@@ -29,7 +30,7 @@ use Rattle.honest_run.proofs.Log.{hash-size, digest-size}
 -- user a keeps k, where w entries are committed
 pub record Fit (c : HonestSetup) (L : ℕ → Item) (w a : ℕ) (k : Kept) : Type 0 where
   pub settings-fit : userSettingsFit (settingsIn c a) ≡ true
-  pub kept-fit : keptFits k ≡ true
+  pub kept-fit : keptFits (c .servers) k ≡ true
   pub low : k .version ≤ w
   pub within : w ≤ 1048576
   pub digest-ok : 0 < k .version → k .digest ≡ digestOf L (k .version)
@@ -49,13 +50,30 @@ answerTo want body = answer (want .kind) (want .server) (want .position) (want .
 pub right-answer : (want : Want) (body : List ℕ) → want .kind < 256 → want .server < 256 → want .position < 4294967296 → want .level < 256
     → answerBodyFits (want .kind) (length body) ≡ true
     → (isAnswer want (answerTo want body) ≡ true) × (answerCode (answerTo want body) ≡ 0)
-unfolding isAnswer headed answer
+unfolding isAnswer isServerCode headed answer
 right-answer want body k s p l fits =
     let header : List ℕ = answerHeader (want .kind) (want .server) (want .position) (want .level) 0 in
     let n : length header ≡ 10 = answer-header-length (want .kind) (want .server) (want .position) (want .level) 0 in
     let code : answerCode (header ++ body) ≡ 0 = answer-code (want .kind) (want .server) (want .position) (want .level) 0 body k s p l (omega arith) in
     let size : length (header ++ body) - 10 ≡ length body = omega (arith, length-append header body) in
     (rw (code, take-at header body 10 n, eqs-refl header, size, fits), code)
+
+-- so is one with another of a server's codes, which has no body
+pub coded-answer : (want : Want) (code : ℕ) → want .kind < 256 → want .server < 256 → want .position < 4294967296 → want .level < 256
+    → code < 256 → isServerCode code ≡ true → answerBodyFits (want .kind) 0 ≡ true
+    → (isAnswer want (answer (want .kind) (want .server) (want .position) (want .level) code []) ≡ true)
+    × (answerCode (answer (want .kind) (want .server) (want .position) (want .level) code []) ≡ code)
+unfolding isAnswer headed answer
+coded-answer want code k s p l small servers none =
+    let header : List ℕ = answerHeader (want .kind) (want .server) (want .position) (want .level) code in
+    let n : length header ≡ 10 = answer-header-length (want .kind) (want .server) (want .position) (want .level) code in
+    let is : answerCode (header ++ []) ≡ code = answer-code (want .kind) (want .server) (want .position) (want .level) code [] k s p l small in
+    let all : length (header ++ []) ≡ 10 = ap length (append-nil header) ∙ n in
+    let size : length (header ++ []) - 10 ≡ 0 = omega arith in (
+      rw (is, take-at header [] 10 n, eqs-refl header, servers, size, none, eq-eqb (length (header ++ [])) 10 all)
+          (by-bool (λ b. cond b true true ≡ true) (eqb code 0) (λ _. refl) (λ _. refl)),
+      is,
+    )
 
 -- 10 and 11 pass at an answer that is waited for, well shaped and has code 0, and what is checked after them decides
 pub answer-passes : (waits : Bool) (want : Want) (a : List ℕ) (cs : List Check) → waits ≡ true → isAnswer want a ≡ true → answerCode a ≡ 0

@@ -15,12 +15,13 @@ use Rattle.user_write.specs.declared.call.Write.{Write}
 use Rattle.user_write.specs.Write.{targetFits, commitNumber, writeWant, heldEntry, writeAnswers}
 use Rattle.user_read.specs.declared.call.Read.{Read}
 use Rattle.user_read.specs.Read.{readCount, readWant}
-use Rattle.user_calls.specs.Calls.{updating, writing, reading, Input, startUpdate, startWrite, startRead, answer}
+use Rattle.user_give_up.specs.GiveUp.{nextTold, giveUpAnswers, giveUpWant, waiting}
+use Rattle.user_calls.specs.Calls.{updating, writing, reading, givingUp, Input, startUpdate, startWrite, startRead, startGiveUp, answer}
 use Rattle.whole_run.specs.World.{User, Sent, userStep}
 use Rattle.whole_run.specs.Runs.{Server, set}
 use Rattle.honest_run.specs.Network.{HonestSetup, generatedKey, Network, settingsIn, steps, Written, Run, entriesOf, wrote}
 use Rattle.honest_run.specs.Claim.{Alone, storedBy, ValidMemory, writtenAt, Serves}
-use Rattle.honest_run.proofs.Invariant.{Item, bodyAt, UpdateOk, ReadOk, Good}
+use Rattle.honest_run.proofs.Invariant.{Item, digestOf, bodyAt, UpdateOk, ReadOk, Good}
 use Rattle.honest_run.proofs.Frames.{sentFor, set-same, memory-collects, memory-asks}
 use Rattle.honest_run.proofs.Exchanges.{exchanged, handedBy}
 
@@ -56,6 +57,8 @@ pub record Opened (c : HonestSetup) (L : ℕ → Item) (w g a left : ℕ) (u : U
   pub arrived : call .answers ≤ g
   pub few : call .answers ≤ commitNumber (suc w)
   pub signed : call .answers ≡ commitNumber (suc w) → u .state .kept .signed ≡ true
+  pub unbegun : u .state .kept .progress .begun ≡ false
+  pub handed : u .state .kept .progress .put ≡ false → suc (call .answers) ≤ u .state .kept .progress .levels
   pub sent : u .sent ≡ sentFor c a (writeWant (c .servers) (suc w) (call .answers)) (bodyAt L w (call .answers))
   pub count : call .answers + left ≡ writeAnswers (suc w)
 
@@ -112,11 +115,23 @@ pub record ReadCall (c : HonestSetup) (L : ℕ → Item) (w a i left : ℕ) (u :
   pub sent : u .sent ≡ sentFor c a (readWant (c .servers) (u .state .kept .version) call) []
   pub count : call .answers + left ≡ readCount i (u .state .kept .version)
 
+-- a give-up, before the answer of the server that is told next
+pub record GiveUpCall (c : HonestSetup) (L : ℕ → Item) (w a left : ℕ) (u : User) : Type 0 where
+  pub is : u .call ≡ givingUp waiting
+  pub memory : ValidMemory (u .lent)
+  pub opened : u .state .kept .opened ≡ true
+  pub unput : u .state .kept .progress .put ≡ false
+  pub begun : u .state .kept .progress .begun ≡ true
+  pub next : nextTold (c .servers) (u .state .kept) ≡ 0 → ⊥
+  pub sent : u .sent ≡ sentFor c a (giveUpWant (c .servers) (u .state .kept)) (digestOf L (suc w))
+  pub count : giveUpAnswers (c .servers) (u .state .kept) ≡ left
+
 -- the call that an input started, with so many answers to come
 unfoldable pub CallOk : HonestSetup → (ℕ → Item) → ℕ → ℕ → ℕ → ℕ → User → (ℕ → Server) → Input → Type 0
 CallOk c L w g a left u y (startUpdate m) = UpdateCall c L w g a left u
 CallOk c L w g a left u y (startWrite m entry randomizer) = WriteCall c L w g a left entry u y
 CallOk c L w g a left u y (startRead m i) = ReadCall c L w a i left u
+CallOk c L w g a left u y (startGiveUp m) = GiveUpCall c L w a left u
 CallOk c L w g a left u y (answer z) = ⊥
 
 -- the log that the servers hold is the one that was written
@@ -164,6 +179,7 @@ pub record Over (c : HonestSetup) (r : Run Network) (a : ℕ) (i : Input) (hande
   pub g : ℕ
   pub good : Good c log w g (begunBy r a i) x
   pub holds : Holds log w (r .log ++ wrote a i handed)
+  pub alone : Alone x a
   pub none-out : x .users a .sent .server ≡ 0
   pub serves : Serves r a (x .users a) i
 

@@ -1,5 +1,5 @@
 -- How far an open write has come: which records are stored and which labels reserved once g of its requests have arrived.
-use mathlib.Core.Path.{_≡_, refl, sym, _∙_}
+use mathlib.Core.Path.{_≡_, refl, ap, sym, _∙_}
 use mathlib.Core.Bool.{true, false, cond, _&&_, _||_, false≢true}
 use Prim.Native.Nat.{ℕ, suc, _+_, _≤_, _<_, min}
 use native.Mathlib.Nat.{add-zero}
@@ -12,7 +12,7 @@ use Rattle.tree.proofs.Cases.{by-bool, by-eqb, cases-le, cases-eq}
 use Rattle.tree.proofs.Levels.{full-iff}
 use Rattle.server.specs.Shape.{nodeFits}
 use Rattle.user_write.specs.Write.{commitNumber}
-use Rattle.honest_run.proofs.Invariant.{numberOf, has, reached}
+use Rattle.honest_run.proofs.Invariant.{PutKind, numberOf, has, reached}
 use Rattle.honest_run.proofs.Heads.{nodes-suc}
 use Rattle.honest_run.proofs.Records.{by-stored-kind}
 
@@ -64,6 +64,22 @@ has-step w g kind p l n =
     (λ q. rw (le-ltb (numberOf kind p l) g (omega arith), le-ltb (numberOf kind p l) (suc g) (omega arith)))))
     (λ e. refl)
 
+-- a record's number is behind those of the Reserves
+pub number-low : (kind p l : ℕ) → lg p < numberOf kind p l
+unfolding commitNumber
+number-low kind p l = by-bool (λ b. lg p < cond b (lg p + 1 + highestFull p + 1) (lg p + 1 + l)) (eqb kind 8) (λ _. omega arith) (λ _. omega arith)
+
+-- a Reserve stores nothing
+pub has-reserves : (w g kind p l : ℕ) → g ≤ suc (lg (suc w)) → has w g kind p l ≡ has w 0 kind p l
+unfolding has
+has-reserves w g kind p l a =
+    by-eqb (λ b. leb p w || (b && ltb (numberOf kind p l) g) ≡ (leb p w || (b && ltb (numberOf kind p l) 0))) p (suc w)
+    (λ e.
+    let n = number-low kind p l in
+    let i : lg p ≡ lg (suc w) = ap lg e in
+    rw (le-ltb (numberOf kind p l) g (omega arith), le-ltb (numberOf kind p l) 0 (omega arith)))
+    (λ e. refl)
+
 -- the greatest label reserved
 pub reached-low : (w g : ℕ) → g ≤ lg (suc w) + 1 → reached w g ≡ nodesTo w + g
 unfolding reached
@@ -78,18 +94,18 @@ reached-high w g a = let e : min g (lg (suc w) + 1) ≡ lg (suc w) + 1 = omega a
 pub reached-zero : (w : ℕ) → reached w 0 ≡ nodesTo w
 reached-zero w = reached-low w 0 (omega arith) ∙ add-zero (nodesTo w)
 
+-- it is not below the last label of the committed positions
+pub reached-from : (w g : ℕ) → nodesTo w ≤ reached w g
+unfolding reached
+reached-from w g = omega arith
+
 -- it never passes the last label of the position
 pub reached-le : (w g : ℕ) → reached w g ≤ nodesTo (suc w)
 unfolding reached
 reached-le w g = let e = nodes-suc w in omega arith
 
--- a record's number is behind those of the Reserves,
-pub number-low : (kind p l : ℕ) → lg p < numberOf kind p l
-unfolding commitNumber
-number-low kind p l = by-bool (λ b. lg p < cond b (lg p + 1 + highestFull p + 1) (lg p + 1 + l)) (eqb kind 8) (λ _. omega arith) (λ _. omega arith)
-
--- the Commit's is the last,
-number-high : (kind p l : ℕ) → 0 < p → 6 ≤ kind → nodeFits kind p l ≡ true → numberOf kind p l ≤ commitNumber p
+-- the Commit's number is the last,
+number-high : (kind p l : ℕ) → 0 < p → PutKind kind → nodeFits kind p l ≡ true → numberOf kind p l ≤ commitNumber p
 unfolding commitNumber
 number-high kind p l z k f =
     by-stored-kind kind p l k f
@@ -98,7 +114,7 @@ number-high kind p l z k f =
     (λ e i. rw e (omega arith))
 
 -- and no two records of a position have one number
-pub number-one : (kind of p l i : ℕ) → 0 < p → 6 ≤ kind → 6 ≤ of → nodeFits kind p l ≡ true → nodeFits of p i ≡ true
+pub number-one : (kind of p l i : ℕ) → 0 < p → PutKind kind → PutKind of → nodeFits kind p l ≡ true → nodeFits of p i ≡ true
     → numberOf kind p l ≡ numberOf of p i → (kind ≡ of) × (l ≡ i)
 unfolding commitNumber
 number-one kind of p l i z k o f g =
@@ -118,7 +134,7 @@ number-one kind of p l i z k o f g =
     (λ e′ ir. rw (e, e′) (λ q. (refl, omega arith))))
 
 -- where all requests have arrived, the position is committed
-pub has-done : (w kind p l : ℕ) → 0 < p → 6 ≤ kind → nodeFits kind p l ≡ true
+pub has-done : (w kind p l : ℕ) → 0 < p → PutKind kind → nodeFits kind p l ≡ true
     → has w (suc (commitNumber (suc w))) kind p l ≡ has (suc w) 0 kind p l
 has-done w kind p l z k f =
     cases-le p w

@@ -2,7 +2,7 @@
 use mathlib.Core.Path.{_≡_, refl, ap, sym, _∙_, subst}
 use mathlib.Core.Bool.{false, true}
 use mathlib.Core.List.{List}
-use Prim.Native.Nat.{ℕ, _+_, _≤_, _<_}
+use Prim.Native.Nat.{ℕ, suc, _+_, _≤_, _<_}
 use native.Mathlib.Omega.{arith}
 use lib.ListN.{length}
 use borrow.Author.Tests.{eq-eqb, ne-eqb}
@@ -11,13 +11,16 @@ use Rattle.tree.proofs.Cases.{cases-eq, not-both}
 use Rattle.tree.proofs.ByteLaws.{written-length}
 use Rattle.user.specs.declared.ask.Want.{Want}
 use Rattle.user.specs.Asking.{asks, asking}
-use Rattle.user.specs.Outcome.{State, Lent, withHashes, withHeld, withRequest}
+use Rattle.user.specs.declared.call.Kept.{Kept}
+use Rattle.user.specs.declared.call.Progress.{Progress}
+use Rattle.user.specs.Outcome.{State, Lent, withProgress, withKept, withHashes, withHeld, withRequest}
+use Rattle.user.proofs.Ranges.{ProgressInRange}
 use Rattle.user.proofs.Passed.{sent-is}
 use Rattle.whole_run.specs.World.{Sent, sentBy}
 use Rattle.whole_run.specs.Runs.{NewWorld, set}
 use Rattle.honest_run.specs.Network.{HonestSetup, InRange, settingsIn, Network, reply, inRecords, Act, Run, newNetwork, runOf}
 use Rattle.honest_run.specs.Claim.{ValidMemory}
-use Rattle.honest_run.proofs.Invariant.{Item, texts, KeptOk, serving}
+use Rattle.honest_run.proofs.Invariant.{Item, texts, digestOf, OpenOk, KeptOk, serving}
 use Rattle.honest_run.proofs.Log.{same-digest}
 
 -- the run of a list of calls, of users and servers in records
@@ -96,4 +99,36 @@ kept-begun c L w g a e f σ same ok =
       path-size = ok .path-size;
       signature-size = ok .signature-size;
       open-ok = λ o. rw (same o) (ok .open-ok o);
+    }
+
+-- a user that keeps the same version, digest and number, and the same path and signature
+pub kept-still : (c : HonestSetup) (L : ℕ → Item) (w g h a : ℕ) (entry : List ℕ) (σ : State) (k : Kept) → KeptOk c L w g a entry σ
+    → k .version ≡ σ .kept .version → k .digest ≡ σ .kept .digest → k .number ≡ σ .kept .number
+    → (k .opened ≡ true → OpenOk c L w h a entry (withKept σ k)) → KeptOk c L w h a entry (withKept σ k)
+kept-still c L w g h a entry σ k ok version digest number open-ok =
+    record {
+      low = omega (arith, version, ok .low);
+      number = omega (arith, number, ok .number);
+      digest-ok = subst (λ v. 0 < v → k .digest ≡ digestOf L v) (sym version) (λ z. digest ∙ ok .digest-ok z);
+      path-size = ok .path-size;
+      signature-size = ok .signature-size;
+      open-ok = open-ok;
+    }
+
+-- an open write with other progress
+pub open-progress : (c : HonestSetup) (L : ℕ → Item) (w g a : ℕ) (entry : List ℕ) (σ : State) (p : Progress) → OpenOk c L w g a entry σ
+    → ProgressInRange (c .servers) (suc w) (σ .kept .signed) p → (p .put ≡ false → g ≤ p .levels)
+    → OpenOk c L w g a entry (withKept σ (withProgress (σ .kept) p))
+open-progress c L w g a entry σ p ok progress unput =
+    record {
+      version = ok .version;
+      within = ok .within;
+      item = ok .item;
+      author = ok .author;
+      entry = ok .entry;
+      path-ok = ok .path-ok;
+      signed = ok .signed;
+      unsigned = ok .unsigned;
+      progress = progress;
+      unput = unput;
     }

@@ -79,6 +79,11 @@ passed n s T t a b ne h =
           cases-eq (suc T) (t + n) (λ q. absurd (ne (ap (ownerOf n) q ∙ add-own n t ∙ h .mine p))) (λ q. omega arith);
     }
 
+-- a head is the same for fewer labels that it is one of
+pub lowered : (n s T U t : ℕ) → U ≤ T → t ≤ U → HeadAt n s T t → HeadAt n s U t
+lowered n s T U t less low h =
+    record { low = low; none = λ e. let x = h .none e in omega arith; mine = h .mine; last = λ p. let x = h .last p in omega arith }
+
 -- no label of a server up to T lies above its head
 pub above-own : (n s T t x : ℕ) → 0 < n → s ≤ n → HeadAt n s T t → ownerOf n x ≡ s → 0 < x → x ≤ T → x ≤ t
 above-own n s T t x c b h e z a =
@@ -94,6 +99,15 @@ above-own n s T t x c b h e z a =
 -- the owner of T has it for its head
 pub top : (n s T t : ℕ) → 0 < T → 0 < n → s ≤ n → ownerOf n T ≡ s → HeadAt n s T t → t ≡ T
 top n s T t z c b e h = let x = h .low in let y = above-own n s T t T c b h e z (omega arith) in omega arith
+
+-- a server has one head
+pub one-head : (n s T t u : ℕ) → 0 < n → s ≤ n → HeadAt n s T t → HeadAt n s T u → t ≡ u
+one-head n s T t u z b h i =
+    let below : (a d : ℕ) → HeadAt n s T a → HeadAt n s T d → a ≤ d =
+    λ a d x y. cases-eq a 0 (λ e. omega arith) (λ e. above-own n s T d a z b y (x .mine (positive a e)) (positive a e) (x .low)) in
+    let p = below t u h i in
+    let q = below u t i h in
+    omega arith
 
 -- positions and their labels: those of position p stand after nodesTo (p - 1) and end with nodesTo p
 pub nodes-suc : (i : ℕ) → nodesTo (suc i) ≡ nodesTo i + (lg (suc i) + 1)
@@ -138,6 +152,11 @@ pub label-le : (p l : ℕ) → 0 < p → l ≤ lg p → label p l ≤ nodesTo p
 label-le zero l z a = absurd (omega arith)
 label-le (suc i) l z a = let e = label-is i l in let f = nodes-suc i in omega arith
 
+-- and so lie below those of later positions
+pub label-within : (p l w : ℕ) → l ≤ lg p → p ≤ w → label p l ≤ nodesTo w
+label-within zero l w a b = let e = label-zero l in omega arith
+label-within (suc i) l w a b = let x = label-le (suc i) l (omega arith) a in let y = nodes-le (suc i) w b in omega arith
+
 -- the position of a label
 pub position-le : (p l w : ℕ) → label p l ≤ nodesTo w → p ≤ w
 position-le zero l w a = omega arith
@@ -158,3 +177,16 @@ position-is p l w z a e =
     let x = position-le p l w (omega arith) in
     let y = label-le p l z a in
     cases-eq p w (λ q. q) (λ ne. let h = nodes-lt p w (omega arith) in absurd (omega arith))
+
+-- a label is that of one place
+pub one-place : (p l q m : ℕ) → l ≤ lg p → m ≤ lg q → (p ≡ 0 → l ≡ 0) → (q ≡ 0 → m ≡ 0) → label p l ≡ label q m → (p ≡ q) × (l ≡ m)
+one-place p l q m a b zl zm e =
+    let x = position-le p l q (let t = label-within q m q b (omega arith) in omega arith) in
+    let y = position-le q m p (let t = label-within p l p a (omega arith) in omega arith) in
+    let same : p ≡ q = omega arith in
+    cases-eq p 0 (λ z. (same, zl z ∙ sym (zm (sym same ∙ z))))
+    (λ n.
+    let f = label-sum p l (positive p n) in
+    let g = label-sum q m (omega (arith, positive p n)) in
+    let h : nodesTo (p - 1) ≡ nodesTo (q - 1) = ap (λ i. nodesTo (i - 1)) same in
+    (same, omega arith))

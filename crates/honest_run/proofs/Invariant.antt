@@ -16,16 +16,20 @@ use Rattle.tree.specs.Cover.{at, piece, cover}
 use Rattle.tree.specs.Read.{readNodes}
 use Rattle.tree.specs.Message.{stored, signedText, answer}
 use Rattle.tree.specs.Setup.{userKey, inLog}
+use Rattle.server.specs.declared.Earlier.{Earlier}
 use Rattle.server.specs.Shape.{nodeFits}
 use Rattle.server.specs.Store.{first}
 use Rattle.server.specs.Serve.{ServeOutcome, served}
 use Rattle.server.proofs.Served.{Ready}
 use Rattle.server.proofs.After.{recordsOf}
 use Rattle.user.specs.declared.ask.Want.{Want}
+use Rattle.user.specs.declared.call.Kept.{Kept}
 use Rattle.user.specs.Outcome.{State}
 use Rattle.user.specs.Asking.{asks}
+use Rattle.user.proofs.Ranges.{ProgressInRange}
 use Rattle.user_update.specs.declared.call.Update.{Update}
 use Rattle.user_write.specs.Write.{commitNumber, writeLevel, writeKind, writeWant}
+use Rattle.user_give_up.specs.GiveUp.{nextTold}
 use Rattle.user_read.specs.declared.call.Read.{Read}
 use Rattle.user_read.specs.Read.{heldText}
 use Rattle.honest_run.specs.Network.{HonestSetup, publicTo, settingsIn, Network, answerBytes}
@@ -59,6 +63,10 @@ bodyOf L kind p l =
 abbrev pub recordOf : (ℕ → Item) → ℕ → ℕ → ℕ → List ℕ
 recordOf L kind p l = stored kind p l (L (p - 1) .author) (bodyOf L kind p l)
 
+-- a kind that is stored
+abbrev pub PutKind : ℕ → Type 0
+PutKind kind = (6 ≤ kind) × (kind ≤ 8)
+
 -- its number among the requests of the write of p
 abbrev pub numberOf : ℕ → ℕ → ℕ → ℕ
 numberOf kind p l = cond (eqb kind 8) (commitNumber p) (lg p + 1 + l)
@@ -82,13 +90,37 @@ pub record HeadAt (n s T t : ℕ) : Type 0 where
   pub mine : 0 < t → ownerOf n t ≡ s
   pub last : 0 < t → T < t + n
 
--- a server
+-- an author and a digest are those of position p, where that is not 0
+abbrev pub HoldsAt : (ℕ → Item) → ℕ → ℕ → List ℕ → Type 0
+HoldsAt L position author digest = (p : ℕ) → position ≡ suc p → (author ≡ L p .author) × (digest ≡ digestOf L (suc p))
+
+-- the head that a server had before the open write
+pub record EarlierOk (c : HonestSetup) (L : ℕ → Item) (w s : ℕ) (e : Earlier) : Type 0 where
+  pub known : e .known ≡ true
+  pub head : HeadAt (c .servers) s (nodesTo w) (label (e .position) (e .level))
+  pub holds : HoldsAt L (e .position) (e .author) (e .digest)
+
+-- a server that g requests of the open write have reached, or one that is as if only g had
 pub record ServerOk (c : HonestSetup) (L : ℕ → Item) (w g s : ℕ) (x : Server) : Type 0 where
   pub ready : Ready (settingsIn c s) (x .head) (x .store) (x .used)
   pub head : HeadAt (c .servers) s (reached w g) (label (x .head .position) (x .head .level))
-  pub holds : x .head .position ≡ suc w → (x .head .author ≡ L w .author) × (x .head .digest ≡ digestOf L (suc w))
-  pub stored : (kind p l : ℕ) → 6 ≤ kind → nodeFits kind p l ≡ true → owner (c .servers) p l ≡ s
+  pub holds : HoldsAt L (x .head .position) (x .head .author) (x .head .digest)
+  pub earlier : x .head .position ≡ suc w → EarlierOk c L w s (x .head .earlier)
+  pub stored : (kind p l : ℕ) → PutKind kind → nodeFits kind p l ≡ true → owner (c .servers) p l ≡ s
       → first kind p l (recordsOf (settingsIn c s) (x .store) (x .used)) ≡ cond (has w g kind p l) (recordOf L kind p l) []
+
+-- all servers, once g requests of the open write have arrived: each one is as some of them left it
+pub record ServersOk (c : HonestSetup) (L : ℕ → Item) (w g : ℕ) (y : ℕ → Server) : Type 0 where
+  pub shown : ℕ → ℕ
+  pub few : (s : ℕ) → shown s ≤ g
+  pub each : (s : ℕ) → 1 ≤ s → s ≤ c .servers → ServerOk c L w (shown s) s (y s)
+
+-- how far the open write was given up: every server is as all of them left it where no give-up has begun, and as none did where the server
+-- is done with it; and somebody is still to be told
+pub record GivenUpOk (n g : ℕ) (k : Kept) (shown : ℕ → ℕ) : Type 0 where
+  pub all : k .progress .begun ≡ false → (s : ℕ) → shown s ≡ g
+  pub done : (s : ℕ) → 1 ≤ s → s ≤ k .progress .done → shown s ≡ 0
+  pub left : k .progress .begun ≡ true → nextTold n k ≡ 0 → ⊥
 
 -- room for what is left of the open write's records
 abbrev pub RoomLeft : HonestSetup → (ℕ → Item) → ℕ → ℕ → ℕ → Server → Type 0
@@ -123,6 +155,8 @@ pub record OpenOk (c : HonestSetup) (L : ℕ → Item) (w g a : ℕ) (begun : Li
   pub path-ok : (l : ℕ) → l ≤ lg (suc w) → piece (σ .path) l ≡ hashOf L (suc w) l
   pub signed : σ .kept .signed ≡ true → (L w .signature ≡ σ .signature) × SignedOk c L w
   pub unsigned : σ .kept .signed ≡ false → (g ≤ commitNumber (suc w)) × (σ .kept .number < 1024)
+  pub progress : ProgressInRange (c .servers) (suc w) (σ .kept .signed) (σ .kept .progress)
+  pub unput : σ .kept .progress .put ≡ false → g ≤ σ .kept .progress .levels
 
 -- what a user keeps
 pub record KeptOk (c : HonestSetup) (L : ℕ → Item) (w g a : ℕ) (begun : List ℕ) (σ : State) : Type 0 where
@@ -135,7 +169,8 @@ pub record KeptOk (c : HonestSetup) (L : ℕ → Item) (w g a : ℕ) (begun : Li
 
 -- all of them
 pub record Good (c : HonestSetup) (L : ℕ → Item) (w g : ℕ) (begun : ℕ → List ℕ) (x : Network) : Type 0 where
-  pub servers-ok : (s : ℕ) → 1 ≤ s → s ≤ c .servers → ServerOk c L w g s (x .servers s)
+  pub servers-ok : ServersOk c L w g (x .servers)
+  pub shown-ok : (a : ℕ) → x .users a .state .kept .opened ≡ true → GivenUpOk (c .servers) g (x .users a .state .kept) (servers-ok .shown)
   pub users-ok : (a : ℕ) → KeptOk c L w g a (begun a) (x .users a .state)
   pub room-ok : (a : ℕ) → x .users a .state .kept .opened ≡ true → (s : ℕ) → 1 ≤ s → s ≤ c .servers → RoomLeft c L w g s (x .servers s)
   pub free : ((a : ℕ) → x .users a .state .kept .opened ≡ false) → g ≡ 0

@@ -1,22 +1,22 @@
 -- The keys of one setup: each user's key is found in the list of all, and settings and what a user keeps are in range.
 use mathlib.Core.Path.{_≡_, refl, ap, _∙_}
-use mathlib.Core.Bool.{Bool, true, false, not, _&&_, and-false}
+use mathlib.Core.Bool.{true, false}
 use Prim.Native.Nat.{ℕ, zero, suc, _-_, _*_, _%_, _≤_, _<_}
 use native.Mathlib.Omega.{arith}
-use lib.Dec.{leb}
 use lib.ListN.{length, take, drop, length-append, length-drop}
 use lib.Seq.{take-all, take-append-le, drop-at, drop-append-le}
-use borrow.Author.Tests.{eq-eqb, le-leb, lt-leb}
+use borrow.Author.Tests.{eq-eqb, le-leb}
 use Rattle.lms.specs.Types.{LMOTS_SHA256_N32_W4, LMS_SHA256_M32_H10}
 use Rattle.lms.specs.Tree.{T, treeBytes, treeSize}
 use Rattle.lms.proofs.Nodes.{node-length, tree-length}
 use Rattle.lms.proofs.RoundTrip.{key-length}
 use Rattle.tree.specs.Setup.{userCount, userKey, listed, groupFits}
-use Rattle.tree.proofs.Cases.{cases-le}
+use Rattle.tree.proofs.Cases.{cases-le, not-both}
 use Rattle.server.specs.Checks as serverChecks
 use Rattle.user.specs.declared.call.Kept.{Kept}
 use Rattle.user.specs.Asking as userChecks
 use Rattle.user.specs.Asking.{keptFits}
+use Rattle.user.proofs.Ranges.{ProgressInRange, kept-fits}
 use Rattle.honest_run.specs.Network.{HonestSetup, InRange, generatedKey, publicOf, publicTo, settingsIn}
 
 -- the key's tree as key generation leaves it
@@ -30,16 +30,16 @@ tree-size c a =
     )
 
 -- what a user keeps is in range, with no write open
-pub kept-fits-shut : (k : Kept) → k .opened ≡ false → k .version ≤ 1048576 → k .number ≤ 1024 → keptFits k ≡ true
-unfolding keptFits
-kept-fits-shut k shut low few =
-    rw (le-leb (k .version) 1048576 low, le-leb (k .number) 1024 few) (ap (λ (b : Bool). not (b && leb 1048576 (k .version))) shut)
+pub kept-fits-shut : (n : ℕ) (k : Kept) → k .opened ≡ false → k .version ≤ 1048576 → k .number ≤ 1024 → keptFits n k ≡ true
+kept-fits-shut n k shut low few =
+    kept-fits n k
+    (record { version = low; number = few; opened = λ o. not-both (k .opened) o shut; progress = λ o. not-both (k .opened) o shut })
 
 -- what a user keeps is in range, with a write open
-pub kept-fits-open : (k : Kept) → k .version < 1048576 → k .number ≤ 1024 → keptFits k ≡ true
-unfolding keptFits
-kept-fits-open k low few =
-    rw (le-leb (k .version) 1048576 (omega arith), le-leb (k .number) 1024 few, lt-leb 1048576 (k .version) low, and-false (k .opened))
+pub kept-fits-open : (n : ℕ) (k : Kept) → k .version < 1048576 → k .number ≤ 1024 → ProgressInRange n (suc (k .version)) (k .signed) (k .progress)
+    → keptFits n k ≡ true
+kept-fits-open n k low few progress =
+    kept-fits n k (record { version = omega arith; number = few; opened = λ _. low; progress = λ _. progress })
 
 module _ (c : HonestSetup) (r : InRange c) where
   -- a public key has 56 bytes, and k of them 56 * k

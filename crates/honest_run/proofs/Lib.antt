@@ -15,6 +15,7 @@ pub mod Reserves
 pub mod Stores
 pub mod Room
 pub mod Puts
+pub mod GiveUps
 -- its users: Update and Read, then Write
 pub mod Answers
 pub mod Updates
@@ -32,16 +33,21 @@ pub mod Exchanges
 pub mod Calls
 pub mod Steps
 pub mod OpenRequests
+pub mod GiveUpSteps
 pub mod Starts
 pub mod WriteStarts
 pub mod ReadStarts
+pub mod GiveUpStarts
 pub mod UpdateAnswers
 pub mod UpdateCalls
 pub mod WriteCalls
 pub mod OpenCalls
 pub mod ReadCalls
+pub mod GiveUpCalls
 pub mod Refused
+pub mod BroughtBack
 pub mod Run
 pub mod Theorem
 pub mod Target
 pub mod Sample
+pub mod GiveUpSample

@@ -1,16 +1,19 @@
 -- What holds of all users and servers after a step of one user, nobody else's write being open.
-use mathlib.Core.Path.{_≡_, ap, sym, _∙_, subst}
+use mathlib.Core.Path.{_≡_, refl, ap, sym, _∙_, subst}
 use mathlib.Core.Bool.{true, false}
 use mathlib.Core.List.{List}
 use Prim.Native.Nat.{ℕ, suc, _≤_, _<_}
+use native.Mathlib.Omega.{arith}
+use Rattle.sha256.proofs.Cases.{by-bool}
 use Rattle.tree.proofs.Cases.{cases-eq, not-both}
+use Rattle.user.specs.declared.call.Kept.{Kept}
 use Rattle.user.specs.Outcome.{State}
 use Rattle.user_write.specs.Write.{commitNumber}
 use Rattle.whole_run.specs.World.{User}
 use Rattle.whole_run.specs.Runs.{Server, set}
 use Rattle.honest_run.specs.Network.{HonestSetup, Network}
 use Rattle.honest_run.specs.Claim.{Alone}
-use Rattle.honest_run.proofs.Invariant.{Item, texts, ServerOk, RoomLeft, ItemOk, SignedOk, KeptOk, Good}
+use Rattle.honest_run.proofs.Invariant.{Item, texts, ServerOk, ServersOk, GivenUpOk, RoomLeft, ItemOk, SignedOk, KeptOk, Good}
 use Rattle.honest_run.proofs.Frames.{set-same, set-other, kept-moves, kept-begun}
 
 -- the users after user a's step
@@ -22,9 +25,29 @@ pub still-alone : (x : Network) (a : ℕ) (u : User) (y : ℕ → Server) → Al
 unfolding Alone
 still-alone x a u y alone b n = ap (λ (v : User). v .state .kept .opened) (set-other (x .users) a u b n) ∙ alone b n
 
+-- servers that all requests have reached, with no give-up begun
+abbrev pub all-reached : (c : HonestSetup) (M : ℕ → Item) (v h : ℕ) (y : ℕ → Server) → ((s : ℕ) → 1 ≤ s → s ≤ c .servers → ServerOk c M v h s (y s))
+    → ServersOk c M v h y
+all-reached c M v h y all = record { shown = λ s. h; few = λ s. omega arith; each = all }
+
+pub none-given-up : (n h : ℕ) (k : Kept) → k .progress .begun ≡ false → k .progress .done ≡ 0 → GivenUpOk n h k (λ s. h)
+none-given-up n h k unbegun none =
+    record { all = λ _ s. refl; done = λ s one few. absurd (omega arith); left = λ b. not-both (k .progress .begun) b unbegun }
+
+-- servers that are as they were
+abbrev pub servers-same : (c : HonestSetup) (L : ℕ → Item) (w g : ℕ) (x y : ℕ → Server) → ServersOk c L w g x → ((s : ℕ) → 1 ≤ s → y s ≡ x s)
+    → ServersOk c L w g y
+servers-same c L w g x y ok same =
+    record {
+      shown = ok .shown;
+      few = ok .few;
+      each = λ s one last. subst (ServerOk c L w (ok .shown s) s) (sym (same s one)) (ok .each s one last);
+    }
+
 -- what the step leaves of what user a keeps and of the servers, for the log M of which v entries are committed and h requests more have arrived
 pub record Leaves (c : HonestSetup) (M : ℕ → Item) (v h a : ℕ) (begun : List ℕ) (σ : State) (y : ℕ → Server) : Type 0 where
-  pub servers : (s : ℕ) → 1 ≤ s → s ≤ c .servers → ServerOk c M v h s (y s)
+  pub servers : ServersOk c M v h y
+  pub shown : σ .kept .opened ≡ true → GivenUpOk (c .servers) h (σ .kept) (servers .shown)
   pub own : KeptOk c M v h a begun σ
   pub room : σ .kept .opened ≡ true → (s : ℕ) → 1 ≤ s → s ≤ c .servers → RoomLeft c M v h s (y s)
   pub shut : σ .kept .opened ≡ false → h ≡ 0
@@ -41,6 +64,11 @@ module _ (c : HonestSetup) (L M : ℕ → Item) (w v g h a : ℕ) (b f : ℕ →
   good-change z others left =
       record {
         servers-ok = left .servers;
+        shown-ok =
+            λ j o.
+            cases-eq j a (λ e. subst (λ k. z .users k .state .kept .opened ≡ true → GivenUpOk (c .servers) h (z .users k .state .kept) (left .servers .shown)) (sym e)
+            (left .shown) o)
+            (λ n. not-both (z .users j .state .kept .opened) o (ap (λ (σ : State). σ .kept .opened) (others j n) ∙ alone j n));
         users-ok =
             λ j.
             cases-eq j a (λ e. subst (λ k. KeptOk c M v h k (f k) (z .users k .state)) (sym e) (left .own))
@@ -71,7 +99,10 @@ good-same c L w g b f x z good users servers begun =
     let opened : (j : ℕ) → x .users j .state .kept .opened ≡ z .users j .state .kept .opened =
     λ j. ap (λ (σ : State). σ .kept .opened) (sym (users j)) in
     record {
-      servers-ok = λ s one few. subst (ServerOk c L w g s) (sym (servers s one)) (good .servers-ok s one few);
+      servers-ok = servers-same c L w g (x .servers) (z .servers) (good .servers-ok) servers;
+      shown-ok =
+          λ j o.
+          subst (λ (σ : State). GivenUpOk (c .servers) g (σ .kept) (good .servers-ok .shown)) (sym (users j)) (good .shown-ok j (opened j ∙ o));
       users-ok =
           λ j.
           subst (KeptOk c L w g j (f j)) (sym (users j))
@@ -90,16 +121,30 @@ unfolding Alone
 none-open c L w g a b x good alone o =
     good .free (λ j. cases-eq j a (λ e. ap (λ k. x .users k .state .kept .opened) e ∙ o) (λ n. alone j n))
 
+-- while no give-up has begun, every server is as all requests that have arrived left it
+pub every-server : (c : HonestSetup) (L : ℕ → Item) (w g a : ℕ) (b : ℕ → List ℕ) (x : Network) → Good c L w g b x → Alone x a
+    → (x .users a .state .kept .opened ≡ true → x .users a .state .kept .progress .begun ≡ false) → (s : ℕ) → 1 ≤ s → s ≤ c .servers
+    → ServerOk c L w g s (x .servers s)
+every-server c L w g a b x good alone unbegun s one last =
+    let k = x .users a .state .kept in
+    let shown : ℕ → ℕ = good .servers-ok .shown in
+    let all : shown s ≡ g =
+    by-bool (λ t. k .opened ≡ t → shown s ≡ g) (k .opened)
+    (λ _ o. good .shown-ok a o .all (unbegun o) s)
+    (λ _ o. omega (arith, good .servers-ok .few s, none-open c L w g a b x good alone o)) refl in
+    subst (λ h. ServerOk c L w h s (x .servers s)) all (good .servers-ok .each s one last)
+
 -- a step of a user that keeps what it kept leaves what held before
 pub leaves-same : (c : HonestSetup) (L : ℕ → Item) (w g a : ℕ) (b : ℕ → List ℕ) (x : Network) → Good c L w g b x → Alone x a
     → (σ : State) (y : ℕ → Server) (begun : List ℕ) → σ ≡ x .users a .state → (x .users a .state .kept .opened ≡ true → begun ≡ b a)
     → ((s : ℕ) → 1 ≤ s → y s ≡ x .servers s) → Leaves c L w g a begun σ y
-leaves-same c L w g a b x good alone σ y begun same entry-same servers-same =
+leaves-same c L w g a b x good alone σ y begun same entry-same unchanged =
     subst (λ (τ : State). Leaves c L w g a begun τ y) (sym same)
     (record {
-      servers = λ s one few. subst (ServerOk c L w g s) (sym (servers-same s one)) (good .servers-ok s one few);
+      servers = servers-same c L w g (x .servers) y (good .servers-ok) unchanged;
+      shown = good .shown-ok a;
       own = kept-begun c L w g a (b a) begun (x .users a .state) entry-same (good .users-ok a);
-      room = λ o s one few. subst (RoomLeft c L w g s) (sym (servers-same s one)) (good .room-ok a o s one few);
+      room = λ o s one few. subst (RoomLeft c L w g s) (sym (unchanged s one)) (good .room-ok a o s one few);
       shut = none-open c L w g a b x good alone;
       fits = good .fits;
       items = good .items;

@@ -1,7 +1,7 @@
 -- The next request of an open write of an honest run goes out: what is handed out, and that the call is on its way with it.
 use mathlib.Core.Path.{_≡_, refl, ap, sym, _∙_, subst}
 use mathlib.Core.List.{List}
-use mathlib.Core.Bool.{true}
+use mathlib.Core.Bool.{true, false}
 use Prim.Native.Nat.{ℕ, suc, _+_, _≤_, _<_}
 use native.Mathlib.Omega.{arith}
 use lib.ListN.{length}
@@ -19,7 +19,7 @@ use Rattle.honest_run.proofs.Log.{same-digest, items-stay, same-texts}
 use Rattle.honest_run.proofs.Frames.{sent-for}
 use Rattle.honest_run.proofs.Bodies.{body-small}
 use Rattle.honest_run.proofs.Writes.{asks-right}
-use Rattle.honest_run.proofs.Moves.{Leaves}
+use Rattle.honest_run.proofs.Moves.{Leaves, all-reached, none-given-up}
 use Rattle.honest_run.proofs.Exchanges.{takenBy}
 use Rattle.honest_run.proofs.Calls.{WriteMemory, memory-hands-out, begun-entry, begunBy, WriteCall, CallOk, OnWay}
 use Rattle.honest_run.proofs.Steps.{goes-on, GoesOn}
@@ -32,6 +32,8 @@ pub record AsksOpen (c : HonestSetup) (L : ℕ → Item) (w g a left : ℕ) (ent
   pub opened : σ .kept .opened ≡ true
   pub arrived : call .answers ≤ g
   pub few : call .answers ≤ commitNumber (suc w)
+  pub unbegun : σ .kept .progress .begun ≡ false
+  pub handed : σ .kept .progress .put ≡ false → suc (call .answers) ≤ σ .kept .progress .levels
   pub ready : call .answers ≡ commitNumber (suc w) → σ .kept .signed ≡ true
   pub count : call .answers + left ≡ writeAnswers (suc w)
 
@@ -68,6 +70,8 @@ module _ (c : HonestSetup) (range : InRange c) (L : ℕ → Item) (w g a left : 
               arrived = asks .arrived;
               few = asks .few;
               signed = asks .ready;
+              unbegun = asks .unbegun;
+              handed = asks .handed;
               sent = sent-for c range a (writeWant (c .servers) (suc w) (call .answers)) (bodyAt L w (call .answers)) (m .request) body-fits;
               count = asks .count;
             };
@@ -78,14 +82,15 @@ module _ (c : HonestSetup) (range : InRange c) (r : Run Network) (a : ℕ) (m : 
     (o : OnWay c r a (startWrite m entry randomizer) (suc left) x) (M : ℕ → Item) (h : ℕ) (σ : State)
     (old : (i : ℕ) → i < o .w → o .log i ≡ M i) where
   -- what the step leaves
-  pub open-leaves : OpenOk c M (o .w) h a entry σ → σ .kept .opened ≡ true → σ .kept .number ≤ 1024
+  pub open-leaves : OpenOk c M (o .w) h a entry σ → σ .kept .opened ≡ true → σ .kept .progress .begun ≡ false → σ .kept .number ≤ 1024
       → (0 < o .w → σ .kept .digest ≡ digestOf (o .log) (o .w)) → length (σ .path) ≡ 672 → length (σ .signature) ≡ 2508
       → ((s : ℕ) → 1 ≤ s → s ≤ c .servers → ServerOk c M (o .w) h s (arrives c x a .servers s))
       → ((s : ℕ) → 1 ≤ s → s ≤ c .servers → RoomLeft c M (o .w) h s (arrives c x a .servers s)) → h ≤ suc (commitNumber (suc (o .w)))
       → Leaves c M (o .w) h a (begunBy r a (startWrite m entry randomizer) a) σ (arrives c x a .servers)
-  open-leaves ok opened number digest-is path-size signature-size servers room fits =
+  open-leaves ok opened unbegun number digest-is path-size signature-size servers room fits =
       record {
-        servers = servers;
+        servers = all-reached c M (o .w) h (arrives c x a .servers) servers;
+        shown = λ _. none-given-up (c .servers) h (σ .kept) unbegun (ok .progress .unbegun unbegun);
         own =
             record {
               low = omega (arith, ok .version);

@@ -25,8 +25,9 @@ use Rattle.tree.proofs.Levels.{lg-below}
 use Rattle.tree.proofs.Paths.{path-bytes-length, path-whole}
 use Rattle.tree.proofs.Pieces.{piece-whole}
 use Rattle.user.specs.declared.call.Kept.{Kept}
-use Rattle.user.specs.Asking.{userSettingsFit, keptFits, userSetupChecks, requestRoom}
+use Rattle.user.specs.Asking.{userSettingsFit, keptFits, userFits, userSetupChecks, requestRoom}
 use Rattle.user.specs.Outcome.{State, stateOf, Lent, withHashes, withHeld, Outcome, refusal}
+use Rattle.user.proofs.Ranges.{ProgressInRange}
 use Rattle.firing.specs.Entry.{entryFits}
 use Rattle.firing.specs.Schedule.{rulesKept}
 use Rattle.user_update.specs.declared.call.Update.{Update}
@@ -44,12 +45,12 @@ use Rattle.honest_run.proofs.Nodes.{cover-node}
 use Rattle.honest_run.proofs.Updates.{Arrived}
 
 -- the start of a Write
-module _ (s : Settings) (σ : State) (m : Lent) (entry : List ℕ) (settled : userSettingsFit s ≡ true) (in-range : keptFits (σ .kept) ≡ true)
+module _ (s : Settings) (σ : State) (m : Lent) (entry : List ℕ) (settled : userSettingsFit s ≡ true) (in-range : keptFits (s .servers) (σ .kept) ≡ true)
     (room : 2566 ≤ length (m .request)) (whole : 65504 ≤ length (m .key .tree)) (shaped : entryFits entry ≡ true) (ruled : rulesKept entry ≡ true) where
   -- 22, 21, 19 and 26 pass; 18 and 17 are left
-  pub start-passes : (not (σ .kept .opened) || eqs (value (ownLeaf s entry)) (piece (σ .path) 0)) ≡ true
+  pub start-passes : (not (σ .kept .opened) || (not (σ .kept .progress .begun) && eqs (value (ownLeaf s entry)) (piece (σ .path) 0))) ≡ true
       → ((σ .kept .opened && σ .kept .signed) || ltb (σ .kept .number) 1024) ≡ true → firstCode (writeStartChecks s σ m entry) ≡ 0
-  unfolding writeStartChecks userSetupChecks writeRoom requestRoom firstCode
+  unfolding writeStartChecks userSetupChecks userFits writeRoom requestRoom firstCode
   start-passes same spare =
       rw (settled, in-range, le-leb 2566 (length (m .request)) room, le-leb 65504 (length (m .key .tree)) (omega arith), same, shaped, ruled, spare)
 
@@ -70,7 +71,7 @@ unfolding writeStarted
 passed-starts s σ m entry randomizer z = rw z
 
 -- with nothing open, an Update begins
-pub write-starts : (s : Settings) (σ : State) (m : Lent) (entry randomizer : List ℕ) → userSettingsFit s ≡ true → keptFits (σ .kept) ≡ true
+pub write-starts : (s : Settings) (σ : State) (m : Lent) (entry randomizer : List ℕ) → userSettingsFit s ≡ true → keptFits (s .servers) (σ .kept) ≡ true
     → 2566 ≤ length (m .request) → 65504 ≤ length (m .key .tree) → entryFits entry ≡ true → rulesKept entry ≡ true
     → σ .kept .opened ≡ false → σ .kept .number < 1024
     → writeStarted s σ m entry randomizer
@@ -79,7 +80,7 @@ write-starts s σ m entry randomizer settled in-range room whole shaped ruled sh
     let k = σ .kept in
     passed-starts s σ m entry randomizer
     (start-passes s σ m entry settled in-range room whole shaped ruled
-    (ap (λ (b : Bool). not b || eqs (value (ownLeaf s entry)) (piece (σ .path) 0)) shut)
+    (ap (λ (b : Bool). not b || (not (k .progress .begun) && eqs (value (ownLeaf s entry)) (piece (σ .path) 0))) shut)
     (ap (λ (b : Bool). (b && k .signed) || ltb (k .number) 1024) shut ∙ lt-ltb (k .number) 1024 number))
     ∙ ap (startedWith s σ m entry randomizer) shut
 
@@ -202,9 +203,10 @@ module _ (c : HonestSetup) (a : ℕ) (L : ℕ → Item) (σ : State) (u : Update
   openItem = record { author = a; entry = entry; signature = σ .signature }
 
   -- what holds of the open write
-  pub opened-ok : OpenOk c (set L w openItem) w 0 a entry (opensWith (settingsIn c a) σ u w hashes entry)
+  pub opened-ok : ProgressInRange (c .servers) (suc w) false (opening (arrived (σ .kept) u) .progress)
+      → OpenOk c (set L w openItem) w 0 a entry (opensWith (settingsIn c a) σ u w hashes entry)
   unfolding opening
-  opened-ok =
+  opened-ok progress =
       let new = set-same L w openItem in
       let sizes = entry-sizes entry shaped in
       let same = there .number in
@@ -217,4 +219,6 @@ module _ (c : HonestSetup) (a : ℕ) (L : ℕ → Item) (σ : State) (u : Update
         path-ok = opened-path (settingsIn c a) L (σ .kept .version) w hashes entry (σ .signature) (σ .path) vw within size (there .answers);
         signed = λ e. not-both false e refl;
         unsigned = λ _. (omega arith, omega arith);
+        progress = progress;
+        unput = λ _. omega arith;
       }

@@ -27,7 +27,7 @@ use Rattle.user.specs.declared.ask.Want.{Want}
 use Rattle.user.specs.Asking.{asks}
 use Rattle.honest_run.specs.Network.{HonestSetup, InRange, publicTo, settingsIn}
 use Rattle.whole_run.specs.Runs.{Server, serverAfter}
-use Rattle.honest_run.proofs.Invariant.{Item, texts, hashOf, bodyOf, recordOf, ServerOk, SignedOk, ItemOk, RightBody, CanAsk, PullRight}
+use Rattle.honest_run.proofs.Invariant.{Item, texts, hashOf, bodyOf, recordOf, PutKind, ServerOk, SignedOk, ItemOk, RightBody, CanAsk, PullRight}
 use Rattle.honest_run.proofs.Log.{hash-size, hash-of-leaf}
 use Rattle.honest_run.proofs.Keys.{user-count}
 use Rattle.honest_run.proofs.Served.{server-is, head-in-log, Asked, asked-fields, early-asked, held, kindCode, answered-with}
@@ -84,7 +84,7 @@ module _ (c : HonestSetup) (range : InRange c) (L : ℕ → Item) (w g : ℕ)
         pulled body zero-code (rw (source, f .kind-is, ne-eqb kind 1 n, le-leb kind 4 k) gives) right
 
     -- the record of a kind at the node that is asked for
-    stored-old : (of : ℕ) → 6 ≤ of → nodeFits of p l ≡ true → (kind ≡ 1 → ⊥) → p ≤ w → first of p l (held c s x q) ≡ recordOf L of p l
+    stored-old : (of : ℕ) → PutKind of → nodeFits of p l ≡ true → (kind ≡ 1 → ⊥) → p ≤ w → first of p l (held c s x q) ≡ recordOf L of p l
     stored-old of six fits n low =
         ok .stored of p l six fits (own n) ∙ ap (λ (b : Bool). cond b (recordOf L of p l) []) (has-old w g of p l low)
 
@@ -129,12 +129,12 @@ module _ (c : HonestSetup) (range : InRange c) (L : ℕ → Item) (w g : ℕ)
         let six : nodeFits 6 p l ≡ true = rw (there, eq-eqb l 0 z) in
         let r = record-fields c range L 6 p l (omega arith) hp hl item (body-fits c L 6 p l (omega arith) (omega arith) item (λ e. absurd (omega arith))) in
         from-record 2 s p l (omega arith) hp hl fits own2 ok (recordOf L 6 p l) (hashOf L p l) (omega arith)
-        (rw (f .kind-is, f .position-is, f .level-is, eq-eqb l 0 z) (stored-old 2 s p l (omega arith) hp hl fits own2 ok 6 (omega arith) six (λ e. omega arith) high))
+        (rw (f .kind-is, f .position-is, f .level-is, eq-eqb l 0 z) (stored-old 2 s p l (omega arith) hp hl fits own2 ok 6 (omega arith, omega arith) six (λ e. omega arith) high))
         (r .bytes) (rw (r .kind-is, r .author-is, r .body-is, z) (sym (hash-of-leaf L p))) (right (hashOf L p l) refl))
         (λ n.
         let seven : nodeFits 7 p l ≡ true = rw (there, full) (le-leb 1 l (omega arith)) in
         let r = record-fields c range L 7 p l (omega arith) hp hl item (body-fits c L 7 p l (omega arith) (omega arith) item (λ e. absurd (omega arith))) in
-        let kept = stored-old 2 s p l (omega arith) hp hl fits own2 ok 7 (omega arith) seven (λ e. omega arith) high in
+        let kept = stored-old 2 s p l (omega arith) hp hl fits own2 ok 7 (omega arith, omega arith) seven (λ e. omega arith) high in
         let size = hash-size L p l in
         from-record 2 s p l (omega arith) hp hl fits own2 ok (recordOf L 7 p l) (hashOf L p l) (omega arith)
         (rw (f .kind-is, f .position-is, f .level-is, ne-eqb l 0 n, kept, r .bytes))
@@ -155,7 +155,7 @@ module _ (c : HonestSetup) (range : InRange c) (L : ℕ → Item) (w g : ℕ)
         let f = fields 3 s p l (omega arith) hp hl fits own3 ok in
         let r = record-fields c range L 6 p l (omega arith) hp hl item (body-fits c L 6 p l (omega arith) (omega arith) item (λ e. absurd (omega arith))) in
         from-record 3 s p l (omega arith) hp hl fits own3 ok (recordOf L 6 p l) (texts L (p - 1)) (omega arith)
-        (rw (f .kind-is, f .position-is, f .level-is) (stored-old 3 s p l (omega arith) hp hl fits own3 ok 6 (omega arith) six (λ e. omega arith) high))
+        (rw (f .kind-is, f .position-is, f .level-is) (stored-old 3 s p l (omega arith) hp hl fits own3 ok 6 (omega arith, omega arith) six (λ e. omega arith) high))
         (r .bytes) (rw (r .author-is, r .body-is))
         (λ e. absurd (omega arith), λ e. absurd (omega arith), λ _. refl, λ e. absurd (omega arith))
 
@@ -173,7 +173,7 @@ module _ (c : HonestSetup) (range : InRange c) (L : ℕ → Item) (w g : ℕ)
         let signed : SignedOk c L (p - 1) = items (p - 1) (omega arith) .1 in
         let r = record-fields c range L 8 p l (omega arith) hp hl item (body-fits c L 8 p l (omega arith) (omega arith) item (λ _. signed)) in
         from-record 4 s p l (omega arith) hp hl fits own4 ok (recordOf L 8 p l) (be 2 (L (p - 1) .author) ++ bodyOf L 8 p l) (omega arith)
-        (rw (f .kind-is, f .position-is, f .level-is) (stored-old 4 s p l (omega arith) hp hl fits own4 ok 8 (omega arith) eight (λ e. omega arith) high))
+        (rw (f .kind-is, f .position-is, f .level-is) (stored-old 4 s p l (omega arith) hp hl fits own4 ok 8 (omega arith, omega arith) eight (λ e. omega arith) high))
         (r .bytes) (rw (r .author-is, r .body-is))
         (λ e. absurd (omega arith), λ e. absurd (omega arith), λ e. absurd (omega arith), λ _. refl)
 

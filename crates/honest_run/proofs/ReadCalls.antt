@@ -47,7 +47,11 @@ module _ (c : HonestSetup) (range : InRange c) (r : Run Network) (a : ℕ) (m : 
   fit : Fit c (o .log) (o .w) a (who .state .kept)
   fit = fit-user c range (o .log) (o .w) (o .g) a b x one last (o .good)
 
-  pull : PullRight c (o .log) (o .w) (o .g) a (x .servers (want .server)) want
+  -- how many requests of an open write its server is left with
+  abbrev shown : ℕ
+  shown = o .good .servers-ok .shown (want .server)
+
+  pull : PullRight c (o .log) (o .w) shown a (x .servers (want .server)) want
   pull =
       pull-in c range (o .log) (o .w) (o .g) a b x one last (o .good) want
       (read-asks c v (o .w) i (o .log) now (who .lent .hashes) (who .lent .held) (call .on-way) (call .one) (call .within) (fit .low) (call .waits))
@@ -65,7 +69,7 @@ module _ (c : HonestSetup) (range : InRange c) (r : Run Network) (a : ℕ) (m : 
   took = readTaken (settingsIn c a) (who .state) (who .lent) now given
 
   kept-servers : (s : ℕ) → arrives c x a .servers s ≡ x .servers s
-  kept-servers = pull-keeps c (o .log) (o .w) (o .g) a x want pull (call .sent)
+  kept-servers = pull-keeps c (o .log) (o .w) shown a x want pull (call .sent)
 
   abbrev asks-on : Outcome Read
   asks-on = readAsks (settingsIn c a) (who .state) collected later
@@ -83,7 +87,7 @@ module _ (c : HonestSetup) (range : InRange c) (r : Run Network) (a : ℕ) (m : 
   right : Right
   right =
       let p =
-      read-right c (o .log) (o .w) (o .g) a i (who .state) (who .lent) now (pull .body) fit (call .one) (call .within) (call .on-way)
+      read-right c (o .log) (o .w) shown a i (who .state) (who .lent) now (pull .body) fit (call .one) (call .within) (call .on-way)
       (call .memory) (call .room) (call .waits) (pull .right)
       in
       record { on = p .0; ends = p .1 }
@@ -162,4 +166,4 @@ module _ (c : HonestSetup) (range : InRange c) (r : Run Network) (a : ℕ) (m : 
   -- the answer is taken: the Read goes on, or gives what was written
   pub read-step : Stepped c r a (startRead m i) left x
   read-step =
-      step-taken c r a (startRead m i) left x (reading now) given (call .is) (pull-comes c (o .log) (o .w) (o .g) a x want pull (call .sent)) read-on read-ends
+      step-taken c r a (startRead m i) left x (reading now) given (call .is) (pull-comes c (o .log) (o .w) shown a x want pull (call .sent)) read-on read-ends

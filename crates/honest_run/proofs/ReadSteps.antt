@@ -21,7 +21,7 @@ use Rattle.tree.proofs.Cases.{by-eqb, cases-eq, positive}
 use Rattle.tree.proofs.Groups.{Group}
 use Rattle.tree.proofs.HonestRead.{TrueReads, true-read-gives-digest}
 use Rattle.user.specs.declared.call.Kept.{Kept}
-use Rattle.user.specs.Asking.{userSettingsFit, keptFits, userSetupChecks, requestRoom, ofNode, isAnswer}
+use Rattle.user.specs.Asking.{userSettingsFit, keptFits, userFits, userSetupChecks, requestRoom, ofNode, isAnswer}
 use Rattle.user.specs.Outcome.{State, Lent, withHashes, withHeld}
 use Rattle.user_read.specs.declared.call.Read.{Read}
 use Rattle.user_read.specs.Read.{readCount, readWant, readChecks, freshRead, readAsks, readEnds, readNext, readHeld, readHashes, heldText, textAuthor, textEntry, readOver, readGives, readEarly, readCollected, readStarted, readTaken}
@@ -41,9 +41,9 @@ fresh-read v i L hashes held =
     record { position = refl; text = λ h. absurd (omega arith); hashes-right = λ j h. absurd (omega arith) }
 
 -- 22, 21 and 24 pass, and what is checked after them decides
-checks-pass : (s : Settings) (k : Kept) (i : ℕ) (m : Lent) (cs : List Check) → userSettingsFit s ≡ true → keptFits k ≡ true → 1 ≤ i → i ≤ k .version
+checks-pass : (s : Settings) (k : Kept) (i : ℕ) (m : Lent) (cs : List Check) → userSettingsFit s ≡ true → keptFits (s .servers) k ≡ true → 1 ≤ i → i ≤ k .version
     → 2566 ≤ length (m .request) → 1024 ≤ length (m .entry) → firstCode (readChecks s k i m ++ cs) ≡ firstCode cs
-unfolding readChecks userSetupChecks requestRoom firstCode
+unfolding readChecks userSetupChecks userFits requestRoom firstCode
 checks-pass s k i m cs settings-fit kept-fit one iv room entry-room =
     rw (
       settings-fit,
@@ -105,7 +105,7 @@ memory-collected r m body ok =
 
 -- an answer that passes 22, 21, 24, 10 and 11 is collected
 module _ (s : Settings) (σ : State) (m : Lent) (r : Read) (a body : List ℕ) (settings-fit : userSettingsFit s ≡ true)
-    (kept-fit : keptFits (σ .kept) ≡ true) (room : 2566 ≤ length (m .request)) (entry-room : 1024 ≤ length (m .entry))
+    (kept-fit : keptFits (s .servers) (σ .kept) ≡ true) (room : 2566 ≤ length (m .request)) (entry-room : 1024 ≤ length (m .entry))
     (some : 1 ≤ r .position) (low : r .position ≤ σ .kept .version) (waits : r .answers < readCount (r .position) (σ .kept .version))
     (shape : isAnswer (readWant (s .servers) (σ .kept .version) r) a ≡ true) (code : answerCode a ≡ 0) (is : answerBody a ≡ body) where
   -- what is checked after 11 decides

@@ -1,11 +1,11 @@
 -- The records that a log stands for: their sizes, and their fields as they are read back.
 use mathlib.Core.Path.{_≡_, ap, sym, _∙_}
-use mathlib.Core.Bool.{true, false≢true}
+use mathlib.Core.Bool.{true}
 use mathlib.Core.List.{List, [], _++_, append-nil}
 use Prim.Native.Nat.{ℕ, _-_, _^_, _≤_, _<_}
 use native.Mathlib.Omega.{arith}
 use lib.ListN.{length, length-append}
-use borrow.Author.Tests.{ne-eqb, le-leb, lt-ltb, leb-true, eqb-true}
+use borrow.Author.Tests.{le-leb, lt-ltb, leb-true, eqb-true}
 use Rattle.tree.specs.Level.{lg, isFull}
 use Rattle.tree.specs.Message.{stored, recordKind, recordPosition, recordLevel, recordAuthor, recordBody}
 use Rattle.tree.specs.Setup.{inLog}
@@ -16,7 +16,7 @@ use Rattle.server.specs.Shape.{levelFits, nodeFits, requestBodyFits}
 use Rattle.server.specs.Store.{isStored}
 use Rattle.server.proofs.Asked.{body-small, names-node}
 use Rattle.honest_run.specs.Network.{HonestSetup, InRange}
-use Rattle.honest_run.proofs.Invariant.{Item, digestOf, bodyOf, recordOf, SignedOk, ItemOk}
+use Rattle.honest_run.proofs.Invariant.{Item, digestOf, bodyOf, recordOf, PutKind, SignedOk, ItemOk}
 use Rattle.honest_run.proofs.Log.{hash-size, digest-size}
 
 -- a node of the log
@@ -29,7 +29,7 @@ pub full-within : (p l : ℕ) → 0 < p → isFull p l ≡ true → l ≤ lg p
 full-within p l z f = let x = lg-mono (2 ^ l) p (full-low p l z f) in let e = lg-power l in omega arith
 
 -- the kinds that are stored
-pub by-stored-kind : {C : Type 0} (kind p l : ℕ) → 6 ≤ kind → nodeFits kind p l ≡ true
+pub by-stored-kind : {C : Type 0} (kind p l : ℕ) → PutKind kind → nodeFits kind p l ≡ true
     → (kind ≡ 6 → l ≡ 0 → C) → (kind ≡ 7 → isFull p l ≡ true → 1 ≤ l → C) → (kind ≡ 8 → l ≡ lg p → C) → C
 unfolding levelFits
 by-stored-kind kind p l k e six seven eight =
@@ -38,17 +38,7 @@ by-stored-kind kind p l k e six seven eight =
     (λ z. six z (eqb-true l 0 (rw z at f)))
     (λ n. cases-eq kind 7
     (λ z. let a = and-true (isFull p l) _ (rw z at f) in seven z (a .0) (leb-true 1 l (a .1)))
-    (λ m. cases-eq kind 8
-    (λ z. eight z (eqb-true l (lg p) (rw z at f)))
-    (λ o. absurd (false≢true (rw (
-      ne-eqb kind 2 (λ q. omega arith),
-      ne-eqb kind 3 (λ q. omega arith),
-      ne-eqb kind 4 (λ q. omega arith),
-      ne-eqb kind 5 (λ q. omega arith),
-      ne-eqb kind 6 n,
-      ne-eqb kind 7 m,
-      ne-eqb kind 8 o,
-    ) at f)))))
+    (λ m. let z : kind ≡ 8 = omega arith in eight z (eqb-true l (lg p) (rw z at f))))
 
 -- the record of a kind, with the size that its kind has
 pub body-fits : (c : HonestSetup) (L : ℕ → Item) (kind p l : ℕ) → 6 ≤ kind → kind ≤ 8 → ItemOk c L (p - 1) → (kind ≡ 8 → SignedOk c L (p - 1))

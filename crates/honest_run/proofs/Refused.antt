@@ -25,7 +25,7 @@ use Rattle.user_write.specs.declared.call.Write.{Write}
 use Rattle.user_write.specs.Write.{withUpdate, freshWrite, writeRoom, writeStartChecks, writeStarted, writeAsks, writeWaits, writeChecks, writeTaken}
 use Rattle.user_write.proofs.WriteRules.{by-going, by-opening}
 use Rattle.user_write.proofs.WriteAnswers.{by-updating}
-use Rattle.user_calls.specs.Calls.{idle, Call, updating, writing, reading, Input, startUpdate, startWrite, startRead, asCall, strayCode, taken, stepped, answer}
+use Rattle.user_calls.specs.Calls.{idle, Call, updating, writing, reading, givingUp, Input, startUpdate, startWrite, startRead, startGiveUp, asCall, strayCode, taken, stepped, answer}
 use Rattle.whole_run.specs.World.{User, sentBy, returned, userStep, after}
 use Rattle.whole_run.specs.Runs.{serverAfter}
 use Rattle.whole_run.proofs.Requests.{sent-kind, update-kind, room-passed}
@@ -111,6 +111,7 @@ Past idle = Unit {0}
 Past (updating x) = ⊥
 Past (writing w) = w .opened ≡ true
 Past (reading x) = ⊥
+Past (givingUp x) = ⊥
 
 -- stays so, and is not refused by 20 or 19
 past-taken : (s : Settings) (u : User) (a : List ℕ) (c : Call) → Past c
@@ -131,6 +132,7 @@ past-taken s u a (writing w) p =
     (λ g d. (refl, ⊎-elim (λ z. omega arith) (λ z. omega arith))))
     (λ f. not-both (w .opened) p f)
 past-taken s u a (reading x) p = absurd p
+past-taken s u a (givingUp x) p = absurd p
 
 -- a Write of user u whose Update goes on: u keeps what it kept before, and the request that is out is a pull
 record Waits (before u : User) : Type 0 where
@@ -325,6 +327,7 @@ refused-at-opening c range r a (startWrite m entry randomizer) k between v =
           subst (Holds (between .log) (between .w)) (sym (log-same r a i (handed (inRecords c) x a i k) (not-zero _ (v .3)))) (between .holds);
     }
 refused-at-opening c range r a (startRead m i) k between v = absurd (v .0 refl)
+refused-at-opening c range r a (startGiveUp m) k between v = absurd (v .0 refl)
 refused-at-opening c range r a (answer y) k between v = absurd (v .0 refl)
 
 -- every call that was refused leaves what the next one needs

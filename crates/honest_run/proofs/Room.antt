@@ -16,7 +16,7 @@ use Rattle.user_write.specs.Write.{commitNumber, writeKind, writeLevel}
 use Rattle.honest_run.specs.Network.{HonestSetup}
 use Rattle.whole_run.specs.Runs.{Server}
 use Rattle.honest_run.specs.Claim.{bodySize, storedTo}
-use Rattle.honest_run.proofs.Invariant.{Item, digestOf, bodyOf, numberOf, RoomLeft, SignedOk, bodyAt}
+use Rattle.honest_run.proofs.Invariant.{Item, digestOf, bodyOf, PutKind, numberOf, RoomLeft, SignedOk, bodyAt}
 use Rattle.honest_run.proofs.Log.{hash-size, digest-size}
 use Rattle.honest_run.proofs.Records.{node-in-log, full-within}
 
@@ -26,7 +26,7 @@ pub record PutAt (c : HonestSetup) (L : ℕ → Item) (w j : ℕ) : Type 0 where
   pub level : ℕ
   pub kind-is : writeKind (suc w) j ≡ kind
   pub level-is : writeLevel (suc w) j ≡ level
-  pub put : 6 ≤ kind
+  pub put : PutKind kind
   pub node : nodeFits kind (suc w) level ≡ true
   pub number : numberOf kind (suc w) level ≡ j
   pub commit : kind ≡ 8 → j ≡ commitNumber (suc w)
@@ -51,7 +51,7 @@ module _ (c : HonestSetup) (L : ℕ → Item) (w j : ℕ) (within : w < 1048576)
         level = 0;
         kind-is = rw (a, b);
         level-is = rw (a, d) z;
-        put = omega arith;
+        put = (omega arith, omega arith);
         node = rw (node-in-log (suc w) 0 (omega arith) (omega arith) (omega arith));
         number = omega arith;
         commit = λ q. absurd (omega arith);
@@ -73,7 +73,7 @@ module _ (c : HonestSetup) (L : ℕ → Item) (w j : ℕ) (within : w < 1048576)
         level = l;
         kind-is = rw (a, b, d);
         level-is = rw (a, d);
-        put = omega arith;
+        put = (omega arith, omega arith);
         node = rw (node-in-log (suc w) l (omega arith) (omega arith) (full-within (suc w) l (omega arith) full), full) (le-leb 1 l (omega arith));
         number = omega arith;
         commit = λ q. absurd (omega arith);
@@ -93,7 +93,7 @@ module _ (c : HonestSetup) (L : ℕ → Item) (w j : ℕ) (within : w < 1048576)
         level = lg (suc w);
         kind-is = rw (a, b, d);
         level-is = rw (a, d);
-        put = omega arith;
+        put = (omega arith, omega arith);
         node = rw (node-in-log (suc w) (lg (suc w)) (omega arith) (omega arith) (omega arith)) (eq-eqb (lg (suc w)) (lg (suc w)) refl);
         number = sym e;
         commit = λ _. e;

@@ -1,5 +1,5 @@
 -- The honest run: from its calls' starts, steps and late requests to every list of calls.
-use mathlib.Core.Path.{_≡_, ap, sym, _∙_, subst}
+use mathlib.Core.Path.{_≡_, refl, ap, sym, _∙_, subst}
 use mathlib.Core.Logic.{_⊎_, inl, inr}
 use mathlib.Core.Bool.{Bool, false, cond}
 use mathlib.Core.List.{List, [], _∷_, _++_, append-nil}
@@ -10,21 +10,29 @@ use borrow.Author.Tests.{eq-eqb, ne-eqb}
 use Rattle.sha256.proofs.Cases.{by-bool}
 use Rattle.tree.proofs.Cases.{cases-le, cases-eq}
 use Rattle.user.specs.declared.call.Step.{Step}
-use Rattle.user_calls.specs.Calls.{Input}
+use Rattle.user.specs.Outcome.{Lent}
+use Rattle.user_calls.specs.Calls.{Input, startUpdate, startWrite, startRead, startGiveUp, answer}
 use Rattle.whole_run.specs.World.{returned}
 use Rattle.whole_run.specs.Runs.{NewWorld}
-use Rattle.honest_run.specs.Network.{HonestSetup, Network, arrives, networkAfter, handed, Act, calls, Written, Run, wrote, doAct, runOf, inRecords}
-use Rattle.honest_run.specs.Claim.{ValidCall, countOf, Valid, Refused, AllValid, NotRefused, Serves}
+use Rattle.honest_run.specs.Network.{HonestSetup, InRange, Network, arrives, networkAfter, handed, Act, calls, Written, Run, entriesOf, wrote, doAct, runOf, inRecords}
+use Rattle.honest_run.specs.Claim.{Alone, ValidCall, countOf, Valid, Refused, AllValid, NotRefused, Reaches, Serves, BringsBack}
 use Rattle.honest_run.proofs.Invariant.{Good}
 use Rattle.honest_run.proofs.Calls.{Holds, begunBy, Between, OnWay, Over, Started, Stepped, Late}
 use Rattle.honest_run.proofs.Frames.{runFrom}
+use Rattle.honest_run.proofs.BroughtBack.{heads-same}
 
 -- nothing is written by a step that does not end its call
-wrote-nothing : (a : ℕ) (i : Input) (z : Step) → z .ended ≡ false → wrote a i z ≡ []
+pub wrote-nothing : (a : ℕ) (i : Input) (z : Step) → z .ended ≡ false → wrote a i z ≡ []
 unfolding wrote returned
 wrote-nothing a i z e = rw e
 
-module _ (c : HonestSetup)
+-- a give-up writes nothing
+given-up-writes : (log : List Written) (a : ℕ) (m : Lent) (z : Step) → log ++ wrote a (startGiveUp m) z ≡ log
+unfolding wrote entriesOf
+given-up-writes log a m z =
+    ap (λ (y : List Written). log ++ y) (by-bool (λ t. cond {A = List Written} t [] [] ≡ []) (returned z) (λ _. refl) (λ _. refl)) ∙ append-nil log
+
+module _ (c : HonestSetup) (range : InRange c)
     (start : (r : Run Network) (a : ℕ) (i : Input) → Between c r → ValidCall c r a i → Started c r a i (countOf c r a i))
     (step : (r : Run Network) (a : ℕ) (i : Input) (left : ℕ) (x : Network) → ValidCall c r a i → OnWay c r a i (suc left) x → Stepped c r a i left x)
     (late : (r : Run Network) (a : ℕ) (i : Input) (left : ℕ) (x : Network) → ValidCall c r a i → (o : OnWay c r a i (suc left) x)
@@ -46,7 +54,7 @@ module _ (c : HonestSetup)
         let e : n - k ≡ suc (n - suc k) = omega arith in
         step r a i (n - suc k) (networkAfter (inRecords c) (r .network) a i k) valid (subst (λ m. OnWay c r a i m (networkAfter (inRecords c) (r .network) a i k)) e o)
 
-    on-way : (k : ℕ) → k < n → OnWay c r a i (n - k) (networkAfter (inRecords c) (r .network) a i k)
+    pub on-way : (k : ℕ) → k < n → OnWay c r a i (n - k) (networkAfter (inRecords c) (r .network) a i k)
     unfolding networkAfter
     on-way zero h = let e : n - 0 ≡ n = omega arith in rw e (started .on-way)
     on-way (suc k) h = next k (omega arith) (on-way k (omega arith)) .goes-on (omega arith)
@@ -127,10 +135,35 @@ module _ (c : HonestSetup)
     all-between [] v = first
     all-between (x ∷ xs) v = acts (runFrom c b xs) x (all-between xs (v .1)) (v .0)
 
+    -- so is every list that it goes on from
+    from-earlier : (ys zs : List Act) → AllValid c (runFrom c b) (zs ++ ys) → AllValid c (runFrom c b) ys
+    unfolding AllValid
+    from-earlier ys [] v = v
+    from-earlier ys (z ∷ zs) v = from-earlier ys zs (v .1)
+
+    -- a give-up brings every server's head back
+    brings-back : (xs : List Act) → AllValid c (runFrom c b) xs → (a : ℕ) (i : Input) → ValidCall c (runFrom c b xs) a i
+        → BringsBack c (runFrom c b) xs (networkAfter (inRecords c) (runFrom c b xs .network) a i (countOf c (runFrom c b xs) a i)) i
+    unfolding BringsBack Serves Reaches Alone
+    brings-back xs v a (startUpdate m) valid = tt
+    brings-back xs v a (startWrite m entry randomizer) valid = tt
+    brings-back xs v a (startRead m i) valid = tt
+    brings-back xs v a (startGiveUp m) valid =
+        λ ys zs e same-log shut.
+        let over = ends (runFrom c b xs) a (startGiveUp m) (all-between xs v) valid in
+        let earlier = all-between ys (from-earlier ys zs (subst (AllValid c (runFrom c b)) e v)) in
+        heads-same c range (over .log) (earlier .log) (over .w) (earlier .w) (over .g) (earlier .g) (begunBy (runFrom c b xs) a (startGiveUp m))
+        (runFrom c b ys .begun) _ (runFrom c b ys .network) (runFrom c b xs .log) (over .good) (earlier .good)
+        (λ j. cases-eq j a (λ q. rw q (over .serves .1)) (λ n. over .alone j n)) shut
+        (subst (Holds (over .log) (over .w)) (given-up-writes (runFrom c b xs .log) a m _) (over .holds))
+        (subst (Holds (earlier .log) (earlier .w)) same-log (earlier .holds))
+    brings-back xs v a (answer y) valid = tt
+
     -- every valid call after every list of calls that were valid or refused
     pub every-call : (xs : List Act) → AllValid c (runFrom c b) xs → (a : ℕ) (i : Input) → ValidCall c (runFrom c b xs) a i
         → NotRefused (countOf c (runFrom c b xs) a i) (handed (inRecords c) (runFrom c b xs .network) a i)
         × Serves (runFrom c b xs) a (networkAfter (inRecords c) (runFrom c b xs .network) a i (countOf c (runFrom c b xs) a i) .users a) i
+        × BringsBack c (runFrom c b) xs (networkAfter (inRecords c) (runFrom c b xs .network) a i (countOf c (runFrom c b xs) a i)) i
     every-call xs v a i valid =
         let between = all-between xs v in
-        (not-refused (runFrom c b xs) a i between valid, ends (runFrom c b xs) a i between valid .serves)
+        (not-refused (runFrom c b xs) a i between valid, ends (runFrom c b xs) a i between valid .serves, brings-back xs v a i valid)

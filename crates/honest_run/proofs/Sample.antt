@@ -51,17 +51,17 @@ little n p size s (suc j) =
     omega arith
 
 -- 100 °C an hour to 950 °C, and 20 minutes there
-abbrev entry : List ℕ
+abbrev pub entry : List ℕ
 entry = 3 ∷ 1 ∷ 0 ∷ 100 ∷ 3 ∷ 182 ∷ 0 ∷ 20 ∷ []
 
-abbrev memory : Lent
+abbrev pub memory : Lent
 memory =
     record { hashes = replicate 1248 0; held = replicate 1026 0; request = replicate 2566 0; entry = []; key = generatedKey small 1 }
 
-abbrev first : Input
+abbrev pub first : Input
 first = startWrite memory entry (replicate 32 0)
 
-abbrev zeros-first : NewWorld
+abbrev pub zeros-first : NewWorld
 zeros-first =
     record {
       users = λ a. record {
@@ -74,10 +74,10 @@ zeros-first =
       servers = λ s. record { author = 0; digest = replicate 32 0; store = replicate 8000 0; digest-size = length-replicate {A = ℕ} 32 0 };
     }
 
-abbrev start : Run Network
+abbrev pub start : Run Network
 start = runFrom small zeros-first []
 
-range : InRange small
+pub range : InRange small
 range =
     record {
       two = omega arith;
@@ -98,7 +98,7 @@ new =
       room = λ s one few. let l : length (replicate {A = ℕ} 8000 0) ≡ 8000 = length-replicate {A = ℕ} 8000 0 in omega (arith, little 2 1 8 s 3, l);
     }
 
-valid : ValidCall small start 1 first
+pub valid : ValidCall small start 1 first
 unfolding Alone ValidInput runOf newNetwork newUser entryFits strikes isSchedule rulesKept scheduleFits laidOut segments segmentsIn segmentCount segmentOf segmentsFit segmentFits signFits change sameSign twosComplement numberAt
 valid =
     record {
@@ -123,7 +123,7 @@ valid =
     }
 
 -- two Status, one Reserve, the entry and the Commit
-five : countOf small start 1 first ≡ 5
+pub five : countOf small start 1 first ≡ 5
 unfolding runOf newNetwork newUser answersOf updateAnswers writeAnswers lg leastFrom reaches isFull highestFull
 five = refl
 

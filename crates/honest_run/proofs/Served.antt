@@ -1,7 +1,7 @@
 -- A request of a user at a server that is ready: its fields as they are read, and the answer where every check passes.
-use mathlib.Core.Path.{_≡_, ap, _∙_}
+use mathlib.Core.Path.{_≡_, ap, sym, _∙_}
 use mathlib.Core.Bool.{Bool, true, cond}
-use mathlib.Core.List.{List}
+use mathlib.Core.List.{List, []}
 use Prim.Native.Nat.{ℕ, _+_, _-_, _≤_, _<_}
 use native.Mathlib.Omega.{arith}
 use lib.ListN.{length, length-append}
@@ -14,8 +14,9 @@ use Rattle.tree.proofs.Cases.{cases-eq, and-true}
 use Rattle.tree.proofs.Messages.{request-header-length, request-begins, request-kind, request-log, request-author, request-position, request-level, request-body}
 use Rattle.server.specs.declared.Head.{Head}
 use Rattle.server.specs.Shape.{nodeFits, requestBodyFits, kindFits, requestFits}
-use Rattle.server.specs.Checks.{headFits, serverSetupChecks, requestChecks, kindChecks, ownsNode, recordFound, pullSource}
+use Rattle.server.specs.Checks.{placeFits, headFits, serverSetupChecks, requestChecks, kindChecks, ownsNode, recordFound, pullSource}
 use Rattle.server.specs.Serve.{headAfter, storeAfter, usedAfter, bodyGiven, headerGiven, answerGiven, ServeOutcome, served}
+use Rattle.server.proofs.Effects.{head-refused}
 use Rattle.server.proofs.Served.{code, Ready, setup-ready, Early, early-ready, served-passed}
 use Rattle.server.proofs.After.{recordsOf, ready-after}
 use Rattle.user.specs.declared.ask.Want.{Want}
@@ -29,14 +30,19 @@ pub server-is : (x : Server) (h : Head) (store : List ℕ) (used : ℕ) → h �
     → _≡_ {A = Server} (record { head = h; store = store; used = used }) x
 server-is x h store used a b d = rw (a, b, d)
 
+-- a place that 22 lets pass, as a head or an earlier one
+place-in-log : (count p l author : ℕ) → placeFits count p l author ≡ true → (p ≡ 0 → l ≡ 0) × (0 < p → inLog p l ≡ true)
+unfolding placeFits
+place-in-log count p l author e = (
+  λ z. eqb-true l 0 (rw (eq-eqb p 0 z) at e),
+  λ z. and-true (inLog p l) _ (rw (ne-eqb p 0 (λ q. omega arith)) at e) .0,
+)
+
 -- a head that 22 lets pass
 pub head-in-log : (count : ℕ) (h : Head) → headFits count h ≡ true
     → (h .position ≡ 0 → h .level ≡ 0) × (0 < h .position → inLog (h .position) (h .level) ≡ true)
 unfolding headFits
-head-in-log count h e = (
-  λ z. eqb-true (h .level) 0 (rw (eq-eqb (h .position) 0 z) at e),
-  λ z. and-true (inLog (h .position) (h .level)) _ (rw (ne-eqb (h .position) 0 (λ q. omega arith)) at e) .0,
-)
+head-in-log count h e = place-in-log count (h .position) (h .level) (h .author) (and-true (placeFits count (h .position) (h .level) (h .author)) _ e .0)
 
 -- The fields of a request, and its length.
 pub record Asked (c : HonestSetup) (a kind p l : ℕ) (body q : List ℕ) : Type 0 where
@@ -124,12 +130,30 @@ module _ (c : HonestSetup) (s : ℕ) (x : Server) (q : List ℕ) where
         setup-ready (settingsIn c s) (x .head) (x .store) (x .used) (c .answers s) ready
         ∙ ap (λ (b : Bool). cond b 0 21) (le-leb 2552 (length (c .answers s)) (c .roomy s))
 
+    module _ (early : Early (settingsIn c s) q) where
+      -- all other checks pass, or give the kind's code
+      request-code : code (settingsIn c s) (x .head) (x .store) (x .used) q (c .answers s) ≡ kindCode
+      unfolding requestChecks
+      request-code = early-ready (settingsIn c s) (x .head) (recordFound held q) (pullSource held q) (length (x .store) - x .used) q early
+
+      -- a refusal keeps the head,
+      pub refused-head : (kindCode ≡ 0 → ⊥) → left .out .head ≡ x .head
+      refused-head n =
+          rw (served-passed (settingsIn c s) (x .head) (x .store) (x .used) q (c .answers s) setup-zero, request-code)
+          (sym (head-refused (x .head) q kindCode n))
+
+      -- and is answered with its code alone
+      pub refused-with : (a kind p l z : ℕ) (body : List ℕ) → Asked c a kind p l body q → kindCode ≡ z → (z ≡ 0 → ⊥)
+          → answerBytes left ≡ answer kind s p l z []
+      unfolding answerBytes answerGiven headerGiven answer
+      refused-with a kind p l z body f is n =
+          all-given (settingsIn c s) (x .head) (x .store) (x .used) q (c .answers s) setup-zero
+          ∙ rw (request-code ∙ is, ne-eqb z 0 n, le-leb 25 (length q) (omega (arith, f .long)), f .kind-is, f .position-is, f .level-is)
+
     module _ (early : Early (settingsIn c s) q) (zero-code : kindCode ≡ 0) where
       -- all other checks pass
       request-zero : code (settingsIn c s) (x .head) (x .store) (x .used) q (c .answers s) ≡ 0
-      unfolding requestChecks
-      request-zero =
-          early-ready (settingsIn c s) (x .head) (recordFound held q) (pullSource held q) (length (x .store) - x .used) q early ∙ zero-code
+      request-zero = request-code early ∙ zero-code
 
       -- it is accepted,
       pub accepted : left .out .code ≡ 0

@@ -4,44 +4,90 @@ use mathlib.Core.Bool.{Bool, true, cond}
 use mathlib.Core.List.{List, [], _++_}
 use Prim.Native.Nat.{ℕ, suc, _-_, _≤_, _<_}
 use native.Mathlib.Omega.{arith}
-use Rattle.tree.specs.Label.{label}
+use Rattle.tree.specs.Label.{nodesTo, label}
 use Rattle.tree.specs.Expr.{entryText}
 use Rattle.tree.specs.Message.{stored}
-use Rattle.tree.proofs.Cases.{by-bool}
+use Rattle.tree.specs.Setup.{userCount}
+use Rattle.tree.proofs.Cases.{by-bool, cases-eq}
+use Rattle.server.specs.declared.Earlier.{Earlier}
 use Rattle.server.specs.Shape.{nodeFits}
 use Rattle.server.specs.Store.{records, recordsIn, sizes, whole, first}
-use Rattle.server.specs.Checks.{serverSettingsFit, headFits}
+use Rattle.server.specs.Checks.{serverSettingsFit, placeFits, earlierFits, headFits}
+use Rattle.server.specs.Serve.{noneEarlier}
 use Rattle.server.proofs.Asked.{names-node, in-log}
+use Rattle.server.proofs.After.{head-level}
 use Rattle.user_write.specs.Write.{commitNumber}
 use Rattle.whole_run.specs.Runs.{NewServer, newHead, Server, newServer}
 use Rattle.honest_run.specs.Network.{HonestSetup, publicTo}
-use Rattle.honest_run.proofs.Invariant.{Item, texts, digestOf, bodyOf, recordOf, has, reached, HeadAt, ServerOk}
+use Rattle.honest_run.proofs.Invariant.{Item, texts, digestOf, bodyOf, recordOf, PutKind, has, reached, HeadAt, EarlierOk, ServerOk}
 use Rattle.honest_run.proofs.Log.{same-hash, same-digest}
-use Rattle.honest_run.proofs.Heads.{at-first, nodes-zero, label-zero, position-le}
+use Rattle.honest_run.proofs.Heads.{at-first, lowered, nodes-zero, label-zero, label-within, position-le}
 use Rattle.honest_run.proofs.Records.{by-stored-kind}
-use Rattle.honest_run.proofs.Counts.{has-none, by-has, reached-zero, reached-high, has-done}
+use Rattle.honest_run.proofs.Counts.{has-none, by-has, reached-zero, reached-high, reached-from, reached-le, has-done}
 
 -- a record is of a position from 1
-stored-position : (kind p l : ℕ) → 6 ≤ kind → nodeFits kind p l ≡ true → 0 < p
+stored-position : (kind p l : ℕ) → PutKind kind → nodeFits kind p l ≡ true → 0 < p
 stored-position kind p l k f = in-log p l (names-node kind p l (λ e. omega arith) f .0) .0
 
--- Logs with the same records, as far as they are stored, and the same head.
+-- The head is at the open write's position at most.
+pub head-top : (c : HonestSetup) (L : ℕ → Item) (w g s : ℕ) (x : Server) → ServerOk c L w g s x → x .head .position ≤ suc w
+head-top c L w g s x ok =
+    let a = ok .head .low in
+    let b = reached-le w g in
+    position-le (x .head .position) (x .head .level) (suc w) (omega arith)
+
+-- One that is not there is the greatest label of its own of the committed positions.
+pub head-below : (c : HonestSetup) (L : ℕ → Item) (w g s : ℕ) (x : Server) → ServerOk c L w g s x → (x .head .position ≡ suc w → ⊥)
+    → HeadAt (c .servers) s (nodesTo w) (label (x .head .position) (x .head .level))
+head-below c L w g s x ok n =
+    let top = head-top c L w g s x ok in
+    let level = head-level (userCount (publicTo c (c .count))) (x .head) (ok .ready .head) in
+    lowered (c .servers) s (reached w g) (nodesTo w) (label (x .head .position) (x .head .level)) (reached-from w g)
+    (label-within (x .head .position) (x .head .level) w level (omega (arith, n))) (ok .head)
+
+-- What a head holds at a position below w, where the logs are the same below w.
+abbrev pub SameBelow : (ℕ → Item) → (ℕ → Item) → ℕ → Type 0
+SameBelow L M w = (i : ℕ) → i < w → (L i .author ≡ M i .author) × (L i .entry ≡ M i .entry)
+
+pub held-same : (L M : ℕ → Item) (w p : ℕ) → SameBelow L M w → p < w → (L p .author ≡ M p .author) × (digestOf L (suc p) ≡ digestOf M (suc p))
+held-same L M w p same h = (
+  same p h .0,
+  same-digest L M (suc p) (omega arith) (λ i b. let t = same i (omega arith) in ap₂ entryText (t .0) (t .1)),
+)
+
+earlier-same : (c : HonestSetup) (L M : ℕ → Item) (w s : ℕ) (e : Earlier) → SameBelow L M w → EarlierOk c L w s e → EarlierOk c M w s e
+earlier-same c L M w s e same ok =
+    let low = position-le (e .position) (e .level) w (ok .head .low) in
+    record {
+      known = ok .known;
+      head = ok .head;
+      holds = λ p q. let a = ok .holds p q in let b = held-same L M w p same (omega arith) in (a .0 ∙ b .0, a .1 ∙ b .1);
+    }
+
+-- Logs with the same records, as far as they are stored, and the same heads.
 server-as : (c : HonestSetup) (L M : ℕ → Item) (w g s : ℕ) (x : Server)
-    → ((kind p l : ℕ) → 6 ≤ kind → nodeFits kind p l ≡ true → has w g kind p l ≡ true → recordOf L kind p l ≡ recordOf M kind p l)
+    → SameBelow L M w
+    → ((kind p l : ℕ) → PutKind kind → nodeFits kind p l ≡ true → has w g kind p l ≡ true → recordOf L kind p l ≡ recordOf M kind p l)
     → (x .head .position ≡ suc w → (L w .author ≡ M w .author) × (digestOf L (suc w) ≡ digestOf M (suc w)))
     → ServerOk c L w g s x → ServerOk c M w g s x
-server-as c L M w g s x same head ok =
+server-as c L M w g s x old same head ok =
     record {
       ready = ok .ready;
       head = ok .head;
-      holds = λ e. let a = ok .holds e in let b = head e in (a .0 ∙ b .0, a .1 ∙ b .1);
+      holds =
+          λ p e.
+          let a = ok .holds p e in
+          cases-eq p w
+          (λ q. let b = head (e ∙ ap suc q) in (a .0 ∙ rw q (b .0), a .1 ∙ rw q (b .1)))
+          (λ n. let t = head-top c L w g s x ok in let b = held-same L M w p old (omega (arith, n)) in (a .0 ∙ b .0, a .1 ∙ b .1));
+      earlier = λ e. earlier-same c L M w s (x .head .earlier) old (ok .earlier e);
       stored = λ kind p l k f o. ok .stored kind p l k f o
           ∙ by-bool (λ b. has w g kind p l ≡ b → cond b (recordOf L kind p l) [] ≡ cond b (recordOf M kind p l) []) (has w g kind p l)
           (λ _ t. same kind p l k f t) (λ _ t. refl) refl;
     }
 
 -- the record of a node depends on the log up to its position
-record-same : (L M : ℕ → Item) (kind p l : ℕ) → 6 ≤ kind → nodeFits kind p l ≡ true
+record-same : (L M : ℕ → Item) (kind p l : ℕ) → PutKind kind → nodeFits kind p l ≡ true
     → ((i : ℕ) → i < p → (L i .author ≡ M i .author) × (L i .entry ≡ M i .entry))
     → (kind ≡ 8 → L (p - 1) .signature ≡ M (p - 1) .signature) → recordOf L kind p l ≡ recordOf M kind p l
 record-same L M kind p l k f same signed =
@@ -57,7 +103,7 @@ record-same L M kind p l k f same signed =
     ap₂ (λ (n : ℕ) (r : List ℕ). stored kind p l n r) a body
 
 -- A head's position where no request of the open write has arrived.
-head-position : (c : HonestSetup) (L : ℕ → Item) (w s : ℕ) (x : Server) → ServerOk c L w 0 s x → x .head .position ≤ w
+pub head-position : (c : HonestSetup) (L : ℕ → Item) (w s : ℕ) (x : Server) → ServerOk c L w 0 s x → x .head .position ≤ w
 head-position c L w s x ok =
     let a = ok .head .low in
     let e = reached-zero w in
@@ -68,6 +114,7 @@ pub server-opens : (c : HonestSetup) (L M : ℕ → Item) (w s : ℕ) (x : Serve
     → ServerOk c L w 0 s x → ServerOk c M w 0 s x
 server-opens c L M w s x same ok =
     server-as c L M w 0 s x
+    (λ i h. let e = same i h in (ap (λ (y : Item). y .author) e, ap (λ (y : Item). y .entry) e))
     (λ kind p l k f t. by-has w 0 kind p l t
     (λ low.
     record-same L M kind p l k f (λ i h. let e = same i (omega arith) in (ap (λ (y : Item). y .author) e, ap (λ (y : Item). y .entry) e))
@@ -81,7 +128,7 @@ pub server-signs : (c : HonestSetup) (L M : ℕ → Item) (w g s : ℕ) (x : Ser
     → ((i : ℕ) → i < w → L i .signature ≡ M i .signature) → g ≤ commitNumber (suc w)
     → ServerOk c L w g s x → ServerOk c M w g s x
 server-signs c L M w g s x same signed few ok =
-    server-as c L M w g s x
+    server-as c L M w g s x (λ i h. same i (omega arith))
     (λ kind p l k f t. let z = stored-position kind p l k f in
     by-has w g kind p l t
     (λ low. record-same L M kind p l k f (λ i h. same i (omega arith)) (λ _. signed (p - 1) (omega arith)))
@@ -101,7 +148,8 @@ server-commits c L w s x ok =
     record {
       ready = ok .ready;
       head = head;
-      holds = λ q.
+      holds = ok .holds;
+      earlier = λ q.
           let a = head .low in
           let z = reached-zero (suc w) in
           let b = position-le (x .head .position) (x .head .level) (suc w) (omega arith) in
@@ -113,11 +161,12 @@ server-commits c L w s x ok =
 -- At first: head (0, 0), and nothing stored.
 pub server-at-first : (c : HonestSetup) (L : ℕ → Item) (s : ℕ) (b : NewServer) → 1 ≤ s → serverSettingsFit (c .servers) s (publicTo c (c .count)) ≡ true
     → ServerOk c L 0 0 s (newServer b)
-unfolding newServer headFits whole records recordsIn sizes first newHead
+unfolding newServer headFits placeFits earlierFits noneEarlier whole records recordsIn sizes first newHead
 server-at-first c L s b low fits =
     record {
       ready = record { settings = fits; head = refl; within = omega arith; records = refl };
       head = rw (reached-zero 0, nodes-zero, label-zero 0) (at-first (c .servers) s low);
-      holds = λ e. absurd (omega arith);
+      holds = λ p e. absurd (omega arith);
+      earlier = λ e. absurd (omega arith);
       stored = λ kind p l k f o. sym (ap (λ (b : Bool). cond b (recordOf L kind p l) []) (has-none 0 kind p l (stored-position kind p l k f)));
     }

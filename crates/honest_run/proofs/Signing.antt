@@ -17,7 +17,8 @@ use Rattle.tree.specs.Setup.{userKey}
 use Rattle.tree.proofs.Cases.{cases-eq, not-both}
 use Rattle.user.specs.declared.call.Kept.{Kept}
 use Rattle.user.specs.Outcome.{State}
-use Rattle.user_write.specs.Write.{commitSignature}
+use Rattle.user.proofs.Ranges.{ProgressInRange}
+use Rattle.user_write.specs.Write.{handing, commitSignature}
 use Rattle.honest_run.specs.Network.{HonestSetup, InRange, generatedKey, publicOf, publicTo}
 use Rattle.whole_run.specs.Runs.{set}
 use Rattle.honest_run.proofs.Invariant.{Item, texts, digestOf, SignedOk, OpenOk, validAt}
@@ -63,7 +64,8 @@ module _ (c : HonestSetup) (r : InRange c) (a number : ℕ) (randomizer text : L
 
 -- the open write of user a, not signed yet, signs
 module _ (c : HonestSetup) (r : InRange c) (L : ℕ → Item) (w g a : ℕ) (begun : List ℕ) (σ : State) (ok : OpenOk c L w g a begun σ)
-    (unsigned : σ .kept .signed ≡ false) (randomizer : List ℕ) (random : length randomizer ≡ 32) where
+    (unsigned : σ .kept .signed ≡ false) (randomizer : List ℕ) (random : length randomizer ≡ 32) (i : ℕ)
+    (progress : ProgressInRange (c .servers) (suc w) true (handing (suc (σ .kept .version)) (σ .kept .progress) i)) where
   abbrev k : Kept
   k = σ .kept
 
@@ -108,7 +110,7 @@ module _ (c : HonestSetup) (r : InRange c) (L : ℕ → Item) (w g a : ℕ) (beg
       }
 
   -- and the write is open as before, with it
-  signed-open : OpenOk c M w g a begun (signedState σ sig)
+  signed-open : OpenOk c M w g a begun (signedState σ i sig)
   signed-open =
       record {
         version = ok .version;
@@ -124,8 +126,10 @@ module _ (c : HonestSetup) (r : InRange c) (L : ℕ → Item) (w g a : ℕ) (beg
         path-ok = λ l h. ok .path-ok l h ∙ same-hash L M (suc w) l (omega arith) (λ i _. signed-texts L w sig i);
         signed = λ _. (ap (λ (x : Item). x .signature) there, signature-ok);
         unsigned = λ e. not-both true refl e;
+        progress = progress;
+        unput = λ e. not-both _ (progress .signed-put refl) e;
       }
 
   -- the signature has its size, and the write is open with it
-  pub signs-open : (length sig ≡ 2508) × OpenOk c M w g a begun (signedState σ sig)
+  pub signs-open : (length sig ≡ 2508) × OpenOk c M w g a begun (signedState σ i sig)
   signs-open = (signature-size, signed-open)

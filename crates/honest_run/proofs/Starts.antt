@@ -2,12 +2,13 @@
 use mathlib.Core.Path.{_≡_, refl, ap, sym, _∙_, subst}
 use mathlib.Core.Bool.{true, false}
 use mathlib.Core.List.{List, []}
-use Prim.Native.Nat.{ℕ, _≤_, _<_}
+use Prim.Native.Nat.{ℕ, suc, _≤_, _<_}
 use native.Mathlib.Omega.{arith}
 use native.Mathlib.Nat.{zero-add}
 use Rattle.sha256.proofs.Cases.{by-bool}
 use Rattle.tree.proofs.Cases.{not-both}
 use Rattle.user.specs.Asking.{keptFits, asking}
+use Rattle.user.proofs.Ranges.{ProgressInRange}
 use Rattle.user.specs.Outcome.{State, Lent, Outcome}
 use Rattle.user_update.specs.Update.{freshUpdate, updateGoes, updateStarted, updateWant, updateAnswers}
 use Rattle.user_update.proofs.UpdateRules.{by-goes, fresh-waits, goingOn}
@@ -22,18 +23,22 @@ use Rattle.honest_run.proofs.Keys.{user-count, user-settings, kept-fits
 use Rattle.honest_run.proofs.Answers.{Fit}
 use Rattle.honest_run.proofs.Updates.{fresh-update}
 use Rattle.honest_run.proofs.UpdateSteps.{update-starts}
-use Rattle.honest_run.proofs.Moves.{withUser, none-open, leaves-same}
+use Rattle.honest_run.proofs.Moves.{withUser, Leaves, none-open, leaves-same}
 use Rattle.honest_run.proofs.Calls.{Updates, UpdateCall, CallOk, begunBy, Between, OnWay, Started, entryBegun}
 use Rattle.honest_run.proofs.Steps.{on-way-from}
 
 -- what a user keeps is in range
-kept-fits : (c : HonestSetup) (L : ℕ → Item) (w g a : ℕ) (b : ℕ → List ℕ) (x : Network) → Good c L w g b x → keptFits (x .users a .state .kept) ≡ true
+kept-fits : (c : HonestSetup) (L : ℕ → Item) (w g a : ℕ) (b : ℕ → List ℕ) (x : Network) → Good c L w g b x
+    → keptFits (c .servers) (x .users a .state .kept) ≡ true
 kept-fits c L w g a b x good =
     let u = good .users-ok a in
     let k = x .users a .state .kept in
-    by-bool (λ t. k .opened ≡ t → keptFits k ≡ true) (k .opened)
-    (λ _ e. let ok = u .open-ok e in kept-fits-open k (omega (arith, ok .version, ok .within)) (u .number))
-    (λ _ e. kept-fits-shut k e (omega (arith, u .low, good .within)) (u .number)) refl
+    by-bool (λ t. k .opened ≡ t → keptFits (c .servers) k ≡ true) (k .opened)
+    (λ _ e.
+    let ok = u .open-ok e in
+    kept-fits-open (c .servers) k (omega (arith, ok .version, ok .within)) (u .number)
+    (subst (λ v. ProgressInRange (c .servers) (suc v) (k .signed) (k .progress)) (sym (ok .version)) (ok .progress)))
+    (λ _ e. kept-fits-shut (c .servers) k e (omega (arith, u .low, good .within)) (u .number)) refl
 
 -- the user's settings, and what it keeps, are those of a user in this log
 pub fit-user : (c : HonestSetup) → InRange c → (L : ℕ → Item) (w g a : ℕ) (b : ℕ → List ℕ) (x : Network) → 1 ≤ a → a ≤ c .count → Good c L w g b x
@@ -49,15 +54,15 @@ fit-user c range L w g a b x one last good =
       counted = user-count c range;
     }
 
--- a start that leaves o, with what was kept, and has a request out: the call is on its way
-pub start-goes : (c : HonestSetup) (r : Run Network) (a : ℕ) (i : Input) (n : ℕ) (o : Outcome Call) (between : Between c r) → Alone (r .network) a → 0 < n
+-- a start that leaves o and has a request out: the call is on its way
+pub start-leaves : (c : HonestSetup) (r : Run Network) (a : ℕ) (i : Input) (n : ℕ) (o : Outcome Call) (between : Between c r) → Alone (r .network) a → 0 < n
     → stepped (settingsIn c a) (r .network .users a .state) (r .network .users a .lent) (r .network .users a .call) i ≡ o
-    → o .step .code ≡ 0 → o .step .ended ≡ false → o .state ≡ r .network .users a .state
+    → o .step .code ≡ 0 → o .step .ended ≡ false
+    → Leaves c (between .log) (between .w) (between .g) a (begunBy r a i a) (o .state) (r .network .servers)
     → after (r .network .users a) o .reads ≡ r .network .users a .reads
-    → (r .network .users a .state .kept .opened ≡ true → entryBegun i (r .begun a) ≡ r .begun a)
     → CallOk c (between .log) (between .w) (between .g) a n (after (r .network .users a) o) (r .network .servers) i → Started c r a i n
 unfolding steps userStep after
-start-goes c r a i n o between alone some is code ended state-same reads-same entry-same call =
+start-leaves c r a i n o between alone some is code ended leaves reads-same call =
     let x = r .network in
     let u = x .users a in
     let g = between .g in
@@ -70,10 +75,21 @@ start-goes c r a i n o between alone some is code ended state-same reads-same en
           subst (λ (v : User). OnWay c r a i n (withUser x a v (x .servers)))
           (sym (accepted-step (settingsIn c a) u i passed ∙ ap (λ (z : Outcome Call). after u z) is))
           (on-way-from c r a i (between .log) (between .log) (between .w) g g n (r .begun) x (after u o) (x .servers) (between .good) alone
-          (between .holds) refl (λ j h. refl)
-          (leaves-same c (between .log) (between .w) g a (r .begun) x (between .good) alone (o .state) (x .servers) (begunBy r a i a) state-same
-          (λ t. set-same (r .begun) a (entryBegun i (r .begun a)) ∙ entry-same t) (λ s one. refl)) reads-same call);
+          (between .holds) refl (λ j h. refl) leaves reads-same call);
     }
+
+-- one that leaves what was kept
+pub start-goes : (c : HonestSetup) (r : Run Network) (a : ℕ) (i : Input) (n : ℕ) (o : Outcome Call) (between : Between c r) → Alone (r .network) a → 0 < n
+    → stepped (settingsIn c a) (r .network .users a .state) (r .network .users a .lent) (r .network .users a .call) i ≡ o
+    → o .step .code ≡ 0 → o .step .ended ≡ false → o .state ≡ r .network .users a .state
+    → after (r .network .users a) o .reads ≡ r .network .users a .reads
+    → (r .network .users a .state .kept .opened ≡ true → entryBegun i (r .begun a) ≡ r .begun a)
+    → CallOk c (between .log) (between .w) (between .g) a n (after (r .network .users a) o) (r .network .servers) i → Started c r a i n
+start-goes c r a i n o between alone some is code ended state-same reads-same entry-same =
+    let x = r .network in
+    start-leaves c r a i n o between alone some is code ended
+    (leaves-same c (between .log) (between .w) (between .g) a (r .begun) x (between .good) alone (o .state) (x .servers) (begunBy r a i a) state-same
+    (λ t. set-same (r .begun) a (entryBegun i (r .begun a)) ∙ entry-same t) (λ s one. refl)) reads-same
 
 -- the first Status goes out
 pub first-status : (c : HonestSetup) → InRange c → (a : ℕ) (σ : State) (m : Lent)

@@ -149,6 +149,7 @@ module _ (c : HonestSetup) (r : Run Network) (a : ℕ) (i : Input) (left : ℕ) 
             good-next c (o .log) (o .log) (o .w) v (o .g) h a (begunBy r a i) (begunBy r a i) x (o .good) (o .alone) up (λ j k. refl) u
             (arrives c x a .servers) leaves;
         holds = holds;
+        alone = still-alone x a u (arrives c x a .servers) (o .alone);
         none-out = ap (λ (y : User). y .sent .server) (set-same (x .users) a u) ∙ out;
         serves = subst (λ (y : User). Serves r a y i) (sym (set-same (x .users) a u)) serves;
       }

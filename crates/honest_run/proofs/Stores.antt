@@ -19,7 +19,7 @@ use Rattle.tree.specs.Setup.{userKey, firstCode}
 use Rattle.tree.proofs.Cases.{by-bool, and-true}
 use Rattle.tree.proofs.Levels.{lg-below}
 use Rattle.server.specs.declared.Head.{Head}
-use Rattle.server.specs.Shape.{nodeFits, requestBodyFits}
+use Rattle.server.specs.Shape.{isStoredKind, nodeFits, requestBodyFits}
 use Rattle.server.specs.Store.{first, isFor, isStored}
 use Rattle.server.specs.Checks.{holdsHead, commitHolds, recordAsked, recordFound, noOther, roomLeft, pullSource}
 use Rattle.server.specs.Serve.{appends, storeAfter, usedAfter, bodyGiven}
@@ -31,7 +31,7 @@ use Rattle.server.proofs.After.{recordsOf, first-after-put}
 use Rattle.user.specs.Asking.{asks}
 use Rattle.honest_run.specs.Network.{HonestSetup, InRange, publicTo, settingsIn, answerBytes}
 use Rattle.whole_run.specs.Runs.{Server, serverAfter}
-use Rattle.honest_run.proofs.Invariant.{Item, digestOf, bodyOf, recordOf, numberOf, has, reached, HeadAt, ServerOk, SignedOk, ItemOk}
+use Rattle.honest_run.proofs.Invariant.{Item, digestOf, bodyOf, recordOf, PutKind, numberOf, has, reached, HeadAt, EarlierOk, ServerOk, SignedOk, ItemOk}
 use Rattle.honest_run.proofs.Log.{digest-size}
 use Rattle.honest_run.proofs.Keys.{user-count}
 use Rattle.honest_run.proofs.Served.{server-is, Asked, asked-fields, early-asked, left, held, kindCode, accepted, answered-with, left-head, left-store, left-used, ready-left}
@@ -44,8 +44,8 @@ reached-same : (w g : ℕ) → lg (suc w) < g → reached w (suc g) ≡ reached 
 reached-same w g a = reached-high w (suc g) (omega arith) ∙ sym (reached-high w g a)
 
 -- request g is the one that brings the record of a kind at level l: every other record is as before it
-stored-other : (c : HonestSetup) (L : ℕ → Item) (w g s : ℕ) (x : Server) → ServerOk c L w g s x → (kind l : ℕ) → 6 ≤ kind
-    → nodeFits kind (suc w) l ≡ true → numberOf kind (suc w) l ≡ g → (of p i : ℕ) → 6 ≤ of → nodeFits of p i ≡ true → owner (c .servers) p i ≡ s
+stored-other : (c : HonestSetup) (L : ℕ → Item) (w g s : ℕ) (x : Server) → ServerOk c L w g s x → (kind l : ℕ) → PutKind kind
+    → nodeFits kind (suc w) l ≡ true → numberOf kind (suc w) l ≡ g → (of p i : ℕ) → PutKind of → nodeFits of p i ≡ true → owner (c .servers) p i ≡ s
     → (p ≡ suc w → of ≡ kind → i ≡ l → ⊥)
     → first of p i (recordsOf (settingsIn c s) (x .store) (x .used)) ≡ cond (has w (suc g) of p i) (recordOf L of p i) []
 stored-other c L w g s x ok kind l k f number of p i o v own other =
@@ -58,13 +58,14 @@ stored-other c L w g s x ok kind l k f number of p i o v own other =
     other e (same .0) (same .1))))
 
 -- a server that the next record is not for
-pub put-elsewhere : (c : HonestSetup) (L : ℕ → Item) (w g s : ℕ) (x : Server) → ServerOk c L w g s x → (kind l : ℕ) → 6 ≤ kind
+pub put-elsewhere : (c : HonestSetup) (L : ℕ → Item) (w g s : ℕ) (x : Server) → ServerOk c L w g s x → (kind l : ℕ) → PutKind kind
     → nodeFits kind (suc w) l ≡ true → numberOf kind (suc w) l ≡ g → (owner (c .servers) (suc w) l ≡ s → ⊥) → ServerOk c L w (suc g) s x
 put-elsewhere c L w g s x ok kind l k f number other =
     record {
       ready = ok .ready;
       head = let t = number-low kind (suc w) l in rw (reached-same w g (omega arith)) (ok .head);
       holds = ok .holds;
+      earlier = ok .earlier;
       stored =
           λ of p i o v own.
           stored-other c L w g s x ok kind l k f number of p i o v own
@@ -73,7 +74,7 @@ put-elsewhere c L w g s x ok kind l k f number other =
 
 module _ (c : HonestSetup) (range : InRange c) (L : ℕ → Item) (w g s : ℕ) (one : 1 ≤ s) (last : s ≤ c .servers) (x : Server) (ok : ServerOk c L w g s x)
     (within : w < 1048576) (item : ItemOk c L w)
-    (kind l : ℕ) (put : 6 ≤ kind) (node : nodeFits kind (suc w) l ≡ true) (own : owner (c .servers) (suc w) l ≡ s)
+    (kind l : ℕ) (put : PutKind kind) (node : nodeFits kind (suc w) l ≡ true) (own : owner (c .servers) (suc w) l ≡ s)
     (signed : kind ≡ 8 → SignedOk c L w) (come : numberOf kind (suc w) l ≤ g) where
   abbrev author : ℕ
   author = L w .author
@@ -92,28 +93,24 @@ module _ (c : HonestSetup) (range : InRange c) (L : ℕ → Item) (w g s : ℕ) 
   place : suc w - 1 ≡ w
   place = omega arith
 
-  -- the kinds end at 8
-  kind-last : kind ≤ 8
-  kind-last = by-stored-kind kind (suc w) l put node (λ e _. omega arith) (λ e _ _. omega arith) (λ e _. omega arith)
-
   -- the level is one of the position
   level : l ≤ lg (suc w)
   level = in-log (suc w) l (names-node kind (suc w) l (λ e. omega arith) node .0) .1 .1
 
   -- the body has its kind's size
   size : requestBodyFits kind (length body) ≡ true
-  size = body-fits c L kind (suc w) l put kind-last (rw place item) (λ e. rw place (signed e))
+  size = body-fits c L kind (suc w) l (put .0) (put .1) (rw place item) (λ e. rw place (signed e))
 
   -- the fields of the request as the server reads them
   fields : Asked c author kind (suc w) l body request
   fields =
-      asked-fields c range author (record { kind = kind; server = s; position = suc w; level = l }) body (let t = kind-last in omega arith)
+      asked-fields c range author (record { kind = kind; server = s; position = suc w; level = l }) body (omega arith)
       (let t = item .listed in let u = range .sixty-four in omega arith) (omega arith)
       (let t = lg-below (suc w) 20 (omega arith) in let u = level in omega arith)
 
   -- and those of its record
   reads : Held L kind (suc w) l
-  reads = record-fields c range L kind (suc w) l kind-last (omega arith) level (rw place item) size
+  reads = record-fields c range L kind (suc w) l (put .1) (omega arith) level (rw place item) size
 
   -- the record that it asks for is the log's
   record-asked : recordAsked request ≡ asked
@@ -134,7 +131,7 @@ module _ (c : HonestSetup) (range : InRange c) (L : ℕ → Item) (w g s : ℕ) 
   holds-head : holdsHead (x .head) request ≡ true
   unfolding holdsHead
   holds-head =
-      let k = ok .holds (there .0) in
+      let k = ok .holds w (there .0) in
       rw (fields .position-is, fields .author-is, eq-eqb (suc w) (x .head .position) (sym (there .0))) (eq-eqb author (x .head .author) (sym (k .0)))
 
   -- and 7: a Commit has its digest, and the signature holds
@@ -146,7 +143,7 @@ module _ (c : HonestSetup) (range : InRange c) (L : ℕ → Item) (w g s : ℕ) 
   commit-holds : kind ≡ 8 → commitHolds (c .log) (publicTo c (c .count)) (x .head) request ≡ true
   unfolding commitHolds
   commit-holds e =
-      let d = ok .holds (there .0) .1 in
+      let d = ok .holds w (there .0) .1 in
       let n = digest-size L (suc w) in
       let front : take 32 (requestBody request) ≡ digestOf L (suc w) = ap (take 32) (commit-body e) ∙ take-at (digestOf L (suc w)) (L w .signature) 32 n in
       let back : drop 32 (requestBody request) ≡ L w .signature = ap (drop 32) (commit-body e) ∙ drop-at (digestOf L (suc w)) (L w .signature) 32 n in
@@ -188,7 +185,7 @@ module _ (c : HonestSetup) (range : InRange c) (L : ℕ → Item) (w g s : ℕ) 
   head-kept : kindCode c s x request ≡ 0 → left c s x request .out .head ≡ x .head
   head-kept z =
       left-head c s x request (ok .ready) early z
-      ∙ head-stays (x .head) request 0 (λ _ e. let t = fields .kind-is in omega arith)
+      ∙ head-stays (x .head) request 0 (λ _ e. let t = fields .kind-is in omega arith) (λ _ e. let t = fields .kind-is in omega arith)
 
   -- again: the record is the one asked for, and nothing changes
   module _ (before : numberOf kind (suc w) l < g) where
@@ -203,8 +200,8 @@ module _ (c : HonestSetup) (range : InRange c) (L : ℕ → Item) (w g s : ℕ) 
 
     -- nothing is added
     adds-none : appends (recordFound (held c s x request) request) request 0 ≡ false
-    unfolding appends
-    adds-none = rw (kept-same, reads .bytes, fields .kind-is, le-leb 6 kind put)
+    unfolding appends isStoredKind
+    adds-none = rw (kept-same, reads .bytes, fields .kind-is, le-leb 6 kind (put .0), le-leb kind 8 (put .1))
 
     -- the server stays as it is
     pub put-again : serverAfter (left c s x request) ≡ x
@@ -232,8 +229,8 @@ module _ (c : HonestSetup) (range : InRange c) (L : ℕ → Item) (w g s : ℕ) 
 
     -- the record is added
     adds-one : appends (recordFound (held c s x request) request) request 0 ≡ true
-    unfolding appends isStored
-    adds-one = rw (kept-none, fields .kind-is, le-leb 6 kind put)
+    unfolding appends isStoredKind isStored
+    adds-one = rw (kept-none, fields .kind-is, le-leb 6 kind (put .0), le-leb kind 8 (put .1))
 
     -- the server answers with code 0
     pub put-next-given : answerBytes (left c s x request) ≡ answer kind s (suc w) l 0 []
@@ -274,7 +271,7 @@ module _ (c : HonestSetup) (range : InRange c) (L : ℕ → Item) (w g s : ℕ) 
         )
 
     -- so each record stored is the log's, with one request more
-    stored-now : (of p i : ℕ) → 6 ≤ of → nodeFits of p i ≡ true → owner (c .servers) p i ≡ s
+    stored-now : (of p i : ℕ) → PutKind of → nodeFits of p i ≡ true → owner (c .servers) p i ≡ s
         → cond (isFor of p i asked) asked (first of p i (held c s x request)) ≡ cond (has w (suc g) of p i) (recordOf L of p i) []
     stored-now of p i o v mine =
         by-bool (λ b. isFor of p i asked ≡ b → cond b asked (first of p i (held c s x request)) ≡ cond (has w (suc g) of p i) (recordOf L of p i) [])
@@ -293,6 +290,8 @@ module _ (c : HonestSetup) (range : InRange c) (L : ℕ → Item) (w g s : ℕ) 
           ready = ready-left c s x request (ok .ready) early next-zero;
           head = rw (reached-same w g (omega arith))
               (subst (λ (y : Head). HeadAt (c .servers) s (reached w g) (label (y .position) (y .level))) h (ok .head));
-          holds = subst (λ (y : Head). y .position ≡ suc w → (y .author ≡ L w .author) × (y .digest ≡ digestOf L (suc w))) h (ok .holds);
+          holds =
+              subst (λ (y : Head). (p : ℕ) → y .position ≡ suc p → (y .author ≡ L p .author) × (y .digest ≡ digestOf L (suc p))) h (ok .holds);
+          earlier = subst (λ (y : Head). y .position ≡ suc w → EarlierOk c L w s (y .earlier)) h (ok .earlier);
           stored = λ of p i o v mine. first-now of p i ∙ stored-now of p i o v mine;
         }

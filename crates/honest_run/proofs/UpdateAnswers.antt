@@ -37,12 +37,12 @@ can-server c range w want can =
     subst (λ s. (1 ≤ s) × (s ≤ c .servers)) (sym (can .owned k)) (owner-range (c .servers) (want .position) (want .level) (omega (arith, range .two))))
 
 -- a pull of a user in an honest run
-pub pull-in : (c : HonestSetup) → InRange c → (L : ℕ → Item) (w g a : ℕ) (b : ℕ → List ℕ) (x : Network) → 1 ≤ a → a ≤ c .count → Good c L w g b x
-    → (want : Want) → CanAsk c w want → PullRight c L w g a (x .servers (want .server)) want
+pub pull-in : (c : HonestSetup) → InRange c → (L : ℕ → Item) (w g a : ℕ) (b : ℕ → List ℕ) (x : Network) → 1 ≤ a → a ≤ c .count
+    → (good : Good c L w g b x) (want : Want) → CanAsk c w want → PullRight c L w (good .servers-ok .shown (want .server)) a (x .servers (want .server)) want
 pull-in c range L w g a b x one last good want can =
     let s = can-server c range w want can in
-    pull-right c range L w g (good .within) (good .items) (x .servers (want .server)) a one last want can
-    (good .servers-ok (want .server) (s .0) (s .1))
+    pull-right c range L w (good .servers-ok .shown (want .server)) (good .within) (good .items) (x .servers (want .server)) a one last want can
+    (good .servers-ok .each (want .server) (s .0) (s .1))
 
 -- What the answer to Update u of user a brings: the Update then, its hashes, and how it goes on.
 pub record Answered (c : HonestSetup) (L : ℕ → Item) (w g a : ℕ) (x : Network) (σ : State) (m : Lent) (u : Update) : Type 0 where
@@ -98,7 +98,14 @@ module _ (c : HonestSetup) (range : InRange c) (r : Run Network) (a : ℕ) (i : 
   fit : Fit c (o .log) (o .w) a (σ .kept)
   fit = fit-user c range (o .log) (o .w) (o .g) a (begunBy r a i) x one last (o .good)
 
-  pull : PullRight c (o .log) (o .w) (o .g) a (x .servers (want .server)) want
+  -- how many requests of an open write its server is left with: none
+  abbrev shown : ℕ
+  shown = o .good .servers-ok .shown (want .server)
+
+  none-shown : shown ≡ 0
+  none-shown = omega (arith, o .good .servers-ok .few (want .server), ups .none-open)
+
+  pull : PullRight c (o .log) (o .w) shown a (x .servers (want .server)) want
   pull =
       pull-in c range (o .log) (o .w) (o .g) a (begunBy r a i) x one last (o .good) want
       (update-asks c (σ .kept .version) (o .w) (o .log) u (m .hashes) (ups .on-way) (fit .low) (ups .waits))
@@ -113,7 +120,7 @@ module _ (c : HonestSetup) (range : InRange c) (r : Run Network) (a : ℕ) (i : 
       × UpdateOk (c .servers) (σ .kept .version) (o .w) (o .log) next (collected .hashes)
   right =
       update-right c (o .log) (o .w) a σ m u (pull .body) fit (ups .on-way) (memory .hashes) (ups .waits)
-      (subst (λ h. RightBody c (o .log) (o .w) h want (pull .body)) (ups .none-open) (pull .right)) (ups .shut) (memory .request)
+      (subst (λ h. RightBody c (o .log) (o .w) h want (pull .body)) none-shown (pull .right)) (ups .shut) (memory .request)
 
   pub answered : Answered c (o .log) (o .w) (o .g) a x (x .users a .state) (x .users a .lent) u
   answered =
@@ -121,8 +128,8 @@ module _ (c : HonestSetup) (range : InRange c) (r : Run Network) (a : ℕ) (i : 
         given = answerTo want (pull .body);
         next = next;
         hashes = collected .hashes;
-        comes = pull-comes c (o .log) (o .w) (o .g) a x want pull (ups .asks-next);
-        keeps = pull-keeps c (o .log) (o .w) (o .g) a x want pull (ups .asks-next);
+        comes = pull-comes c (o .log) (o .w) shown a x want pull (ups .asks-next);
+        keeps = pull-keeps c (o .log) (o .w) shown a x want pull (ups .asks-next);
         answers = next-answers (c .servers) u (pull .body);
         on-way = right .1;
         sized = update-hashes-size (c .servers) u (pull .body) (m .hashes) ∙ memory .hashes;

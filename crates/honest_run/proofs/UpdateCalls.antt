@@ -14,10 +14,10 @@ use Rattle.user_calls.specs.Calls.{Call, updating, startUpdate, asCall, taken}
 use Rattle.whole_run.specs.World.{User, sentBy, returned, newReads, after}
 use Rattle.honest_run.specs.Network.{HonestSetup, InRange, settingsIn, Network, arrives, Run, wrote, entriesOf}
 use Rattle.honest_run.specs.Claim.{Reaches, Serves}
-use Rattle.honest_run.proofs.Invariant.{digestOf, ServerOk}
+use Rattle.honest_run.proofs.Invariant.{digestOf}
 use Rattle.honest_run.proofs.Frames.{memory-collects, memory-asks}
 use Rattle.honest_run.proofs.Updates.{Arrived}
-use Rattle.honest_run.proofs.Moves.{Leaves}
+use Rattle.honest_run.proofs.Moves.{Leaves, servers-same}
 use Rattle.honest_run.proofs.Calls.{UpdateCall, CallOk, Holds, begunBy, OnWay, Stepped, Late}
 use Rattle.honest_run.proofs.Steps.{GoesOn, Ends, is-over, pull-late, log-digest, step-taken, pull-goes-on}
 use Rattle.honest_run.proofs.UpdateAnswers.{Answered, answered}
@@ -95,7 +95,8 @@ module _ (c : HonestSetup) (range : InRange c) (r : Run Network) (a : ℕ) (m : 
         let k = arrived (who .state .kept) next in
         let ok = o .good .users-ok a in
         record {
-          servers = λ s low high. subst (ServerOk c (o .log) (o .w) (o .g) s) (sym (answer-now .keeps s)) (o .good .servers-ok s low high);
+          servers = servers-same c (o .log) (o .w) (o .g) (x .servers) (arrives c x a .servers) (o .good .servers-ok) (λ s _. answer-now .keeps s);
+          shown = λ t. not-both (k .opened) t shut-then;
           own =
               record {
                 low = omega (arith, there .version);

@@ -17,7 +17,7 @@ use Rattle.tree.proofs.Cases.{by-bool, cases-le, cases-eq, positive}
 use Rattle.tree.proofs.Counts.{cover-at-most-39}
 use Rattle.tree.proofs.Groups.{Group}
 use Rattle.user.specs.declared.call.Kept.{Kept}
-use Rattle.user.specs.Asking.{userSettingsFit, keptFits, userSetupChecks, requestRoom, isAnswer, ofNode, ofStatus}
+use Rattle.user.specs.Asking.{userSettingsFit, keptFits, userFits, userSetupChecks, requestRoom, isAnswer, ofNode, ofStatus}
 use Rattle.user.specs.Outcome.{State, Lent, withHashes}
 use Rattle.user_update.specs.declared.call.Update.{Update}
 use Rattle.user_update.specs.Update.{updateEnded, updateWant, updateNext, updateHashes, updateChecks, statusTaken, updateGoes, freshUpdate, updateStarted, updateSetup, updateEarly, updateTaken}
@@ -33,9 +33,9 @@ use Rattle.honest_run.proofs.Status.{head-told, head-holds, status-ok}
 use Rattle.honest_run.proofs.Contents.{digest-back, record-holds, gives-own, gives-new}
 
 -- 22, 21 and 18 pass, and what is checked after them decides
-setup-passes : (s : Settings) (k : Kept) (buffer : List ℕ) (cs : List Check) → userSettingsFit s ≡ true → keptFits k ≡ true → k .opened ≡ false
+setup-passes : (s : Settings) (k : Kept) (buffer : List ℕ) (cs : List Check) → userSettingsFit s ≡ true → keptFits (s .servers) k ≡ true → k .opened ≡ false
     → 2566 ≤ length buffer → firstCode (updateSetup s k buffer ++ cs) ≡ firstCode cs
-unfolding updateSetup userSetupChecks requestRoom firstCode
+unfolding updateSetup userSetupChecks userFits requestRoom firstCode
 setup-passes s k buffer cs settings-fit kept-fit shut room =
     let closed : not (k .opened) ≡ true = rw shut in
     rw (settings-fit, kept-fit, le-leb 2566 (length buffer) room, closed)
@@ -58,7 +58,7 @@ update-hashes-size n u body hashes =
 
 -- an answer that passes 22, 21, 18, 10 and 11, and whose contents pass, is taken
 module _ (s : Settings) (σ : State) (m : Lent) (u : Update) (a body : List ℕ)
-    (settings-fit : userSettingsFit s ≡ true) (kept-fit : keptFits (σ .kept) ≡ true) (shut : σ .kept .opened ≡ false) (room : 2566 ≤ length (m .request))
+    (settings-fit : userSettingsFit s ≡ true) (kept-fit : keptFits (s .servers) (σ .kept) ≡ true) (shut : σ .kept .opened ≡ false) (room : 2566 ≤ length (m .request))
     (waits : updateEnded (s .servers) (σ .kept .version) u ≡ false) (shape : isAnswer (updateWant (s .servers) (σ .kept .version) u) a ≡ true)
     (code : answerCode a ≡ 0) (is : answerBody a ≡ body) where
   -- what is checked after 11 decides

@@ -6,13 +6,16 @@ use Prim.Native.Nat.{ℕ, suc, _+_, _≤_, _<_}
 use native.Mathlib.Omega.{arith}
 use lib.ListN.{length}
 use Rattle.tree.proofs.Cases.{cases-le, not-both}
+use Rattle.user.specs.declared.call.Progress.{Progress}
 use Rattle.user.specs.Asking.{asking, done}
 use Rattle.user.specs.Outcome.{State, Lent, withHashes, Outcome}
+use Rattle.user.proofs.Ranges.{ProgressInRange}
 use Rattle.user_update.specs.declared.call.Update.{Update}
-use Rattle.user_update.specs.Update.{updateAnswers}
+use Rattle.user_update.specs.Update.{arrived, updateAnswers}
 use Rattle.user_update.proofs.UpdateRules.{endedWith, goingOn}
 use Rattle.user_write.specs.declared.call.Write.{Write}
 use Rattle.user_write.specs.Write.{withUpdate, openedAt, opening, writeWaits, writeTaken, writeAnswers, writeAsks}
+use Rattle.user_write.proofs.Handing.{handing-first}
 use Rattle.user_write.proofs.Writes.{commit-positive}
 use Rattle.user_calls.specs.Calls.{Call, writing, Input, startWrite, asCall, taken}
 use Rattle.whole_run.specs.World.{User, returned, newReads, after}
@@ -24,7 +27,8 @@ use Rattle.honest_run.proofs.Frames.{set-other}
 use Rattle.honest_run.proofs.Servers.{server-opens}
 use Rattle.honest_run.proofs.Updates.{Arrived}
 use Rattle.honest_run.proofs.Opening.{write-waits, write-arrives, write-opens, opened-path-size, opened-ok, opensWith}
-use Rattle.honest_run.proofs.Moves.{Leaves}
+use Rattle.honest_run.proofs.Writes.{asked-progress}
+use Rattle.honest_run.proofs.Moves.{Leaves, every-server}
 use Rattle.honest_run.proofs.Calls.{ToOpen, WriteCall, CallOk, begunBy, OnWay, Stepped, Late, memory-moves, memory-hands-out}
 use Rattle.honest_run.proofs.Steps.{GoesOn, pull-late, step-taken, pull-goes-on}
 use Rattle.honest_run.proofs.OpenRequests.{AsksOpen, open-leaves, open-goes-on}
@@ -129,22 +133,6 @@ module _ (c : HonestSetup) (range : InRange c) (r : Run Network) (a : ℕ) (m : 
     old : (i : ℕ) → i < o .w → o .log i ≡ M i
     old i h = sym (set-other (o .log) (o .w) _ i (λ e. omega arith))
 
-    asks : AsksOpen c M (o .w) 0 a left entry kept collected opened
-    unfolding opening writeAnswers
-    asks =
-        record {
-          memory = memory-moves c a entry (who .lent) now opened (answer-now .hashes) (call .memory) (answer-now .sized) refl refl;
-          ok =
-              opened-ok c a (o .log) (who .state) next (o .w) (answer-now .hashes) entry one last (call .memory .entry-fits) (to-open .number) there low
-              (to-open .position) (o .good .users-ok a .path-size);
-          going = refl;
-          opened = refl;
-          arrived = omega arith;
-          few = omega arith;
-          ready = λ e. absurd (omega (arith, commit-positive (suc (o .w))));
-          count = omega (arith, to-open .count, answer-now .answers, all);
-        }
-
     opens-now : writeTaken (settingsIn c a) (who .state) (who .lent) now (answer-now .given) ≡ writeAsks (settingsIn c a) kept collected opened
     unfolding done
     opens-now =
@@ -153,18 +141,49 @@ module _ (c : HonestSetup) (range : InRange c) (r : Run Network) (a : ℕ) (m : 
         ∙ write-opens (settingsIn c a) (who .state) (who .lent) now (answer-now .given) next (answer-now .hashes) entry (o .w) (there .version)
         (to-open .position) (to-open .target) (call .memory .held)
 
+    -- what is kept of the first Reserve
+    first-handed : opening (arrived (who .state .kept) next) .progress ≡ record { levels = 1; put = false; begun = false; done = 0 }
+    unfolding opening
+    first-handed = handing-first (suc (arrived (who .state .kept) next .version))
+
+    progress : ProgressInRange (c .servers) (suc (o .w)) false (opening (arrived (who .state .kept) next) .progress)
+    unfolding opening
+    progress =
+        subst (λ v. ProgressInRange (c .servers) (suc v) false (opening (arrived (who .state .kept) next) .progress)) (there .version)
+        (asked-progress (settingsIn c a) (who .state) kept (who .lent) collected now opened (answer-now .given) opens-now refl)
+
+    asks : AsksOpen c M (o .w) 0 a left entry kept collected opened
+    unfolding opening writeAnswers
+    asks =
+        record {
+          memory = memory-moves c a entry (who .lent) now opened (answer-now .hashes) (call .memory) (answer-now .sized) refl refl;
+          ok =
+              opened-ok c a (o .log) (who .state) next (o .w) (answer-now .hashes) entry one last (call .memory .entry-fits) (to-open .number) there low
+              (to-open .position) (o .good .users-ok a .path-size) progress;
+          going = refl;
+          opened = refl;
+          arrived = omega arith;
+          few = omega arith;
+          unbegun = ap (λ (g : Progress). g .begun) first-handed;
+          handed = λ _. omega (arith, ap (λ (g : Progress). g .levels) first-handed);
+          ready = λ e. absurd (omega (arith, commit-positive (suc (o .w))));
+          count = omega (arith, to-open .count, answer-now .answers, all);
+        }
+
     leaves : Leaves c M (o .w) 0 a (begunBy r a i a) kept (arrives c x a .servers)
     unfolding opening storedTo
     leaves =
         let ok = o .good .users-ok a in
-        open-leaves c range r a m entry randomizer left x o M 0 kept old (asks .ok) refl
+        open-leaves c range r a m entry randomizer left x o M 0 kept old (asks .ok) refl (asks .unbegun)
         (subst (λ n. n ≤ 1024) (sym (there .number)) (ok .number)) (there .digest)
         (opened-path-size (settingsIn c a) (o .log) (who .state .kept .version) (o .w) (answer-now .hashes) entry (who .state .signature) (who .state .path) low
         (to-open .position) (ok .path-size) (there .answers)) (ok .signature-size)
         (λ s sl sh.
         subst (ServerOk c M (o .w) 0 s) (sym (answer-now .keeps s))
         (server-opens c (o .log) M (o .w) s (x .servers s) old
-        (subst (λ h. ServerOk c (o .log) (o .w) h s (x .servers s)) (to-open .updates .none-open) (o .good .servers-ok s sl sh))))
+        (subst (λ h. ServerOk c (o .log) (o .w) h s (x .servers s)) (to-open .updates .none-open)
+        (every-server c (o .log) (o .w) (o .g) a (begunBy r a i) x (o .good) (o .alone)
+        (λ t. not-both (who .state .kept .opened) t (to-open .updates .shut)) s sl sh))))
         (λ s sl sh.
         subst (RoomLeft c M (o .w) 0 s) (sym (answer-now .keeps s))
         (subst (λ (e : List ℕ). x .servers s .used + storedBy (c .servers) (suc (o .w)) (length e) s ≤ length (x .servers s .store) + 0)

@@ -117,7 +117,7 @@ module _ (c : HonestSetup) (range : InRange c) (r : Run Network) (a : ℕ) (m : 
   module _ (opened : user .state .kept .opened ≡ true) where
     ok : OpenOk c (between .log) (between .w) (between .g) a entry (user .state)
     ok =
-        subst (λ (e : List ℕ). OpenOk c (between .log) (between .w) (between .g) a e (user .state)) (sym (given .resumes opened))
+        subst (λ (e : List ℕ). OpenOk c (between .log) (between .w) (between .g) a e (user .state)) (sym (given .resumes opened .0))
         (between .good .users-ok a .open-ok opened)
 
     asks : AsksOpen c (between .log) (between .w) (between .g) a n entry (user .state) (holding m entry) fresh
@@ -130,6 +130,8 @@ module _ (c : HonestSetup) (range : InRange c) (r : Run Network) (a : ℕ) (m : 
           opened = opened;
           arrived = omega arith;
           few = omega arith;
+          unbegun = given .resumes opened .1;
+          handed = λ _. ok .progress .some;
           ready = λ e. absurd (omega (arith, commit-positive (suc (between .w))));
           count = zero-add _ ∙ rw (opened, ← between .holds .count) (zero-add _);
         }
@@ -139,7 +141,7 @@ module _ (c : HonestSetup) (range : InRange c) (r : Run Network) (a : ℕ) (m : 
 
     resumed-is : writeStarted (settingsIn c a) (user .state) m entry randomizer ≡ reserving
     resumed-is =
-        write-resumes c range (between .log) (between .w) (between .g) a entry (user .state) m opened (fit .kept-fit) ok
+        write-resumes c range (between .log) (between .w) (between .g) a entry (user .state) m opened (given .resumes opened .1) (fit .kept-fit) ok
         (given .memory .request) whole randomizer (given .shaped) (given .ruled)
         ∙ asks-next c range (between .log) (between .w) (between .g) a n entry (user .state) (holding m entry) fresh asks
 
@@ -147,7 +149,7 @@ module _ (c : HonestSetup) (range : InRange c) (r : Run Network) (a : ℕ) (m : 
     unfolding stepped CallOk asking after newReads entriesOf
     resumed-start =
         start-goes c r a (startWrite m entry randomizer) n (asCall writing reserving) between (valid .alone) some (ap (asCall writing) resumed-is)
-        refl refl refl refl (λ o. given .resumes o)
+        refl refl refl refl (λ o. given .resumes o .0)
         (asks-call c range (between .log) (between .w) (between .g) a n entry (user .state) (holding m entry) fresh asks user (r .network .servers))
 
   -- a valid Write starts, new or resumed

@@ -1,5 +1,5 @@
 -- An open write that nothing refuses: it is resumed, each answer is taken, it signs once, and its Commit ends it.
-use mathlib.Core.Path.{_≡_, refl, ap, ap₂, sym, _∙_}
+use mathlib.Core.Path.{_≡_, refl, ap, ap₂, sym, _∙_, subst}
 use mathlib.Core.Bool.{Bool, true, false, cond, not, _&&_, _||_, and-false, or-true, or-false}
 use mathlib.Core.List.{List, []}
 use Prim.Native.Nat.{ℕ, suc, _≤_, _<_, _-_}
@@ -18,12 +18,14 @@ use Rattle.tree.proofs.Cases.{by-bool, cases-eq}
 use Rattle.tree.proofs.Labels.{owner-range}
 use Rattle.tree.proofs.Levels.{lg-below}
 use Rattle.user.specs.declared.call.Kept.{Kept}
-use Rattle.user.specs.Asking.{userSettingsFit, keptFits, userSetupChecks, requestRoom, ofNode, answerBodyFits, isAnswer, answerChecks}
-use Rattle.user.specs.Outcome.{State, stateOf, Lent, withKept, Outcome, nothing, ending, handingOut}
+use Rattle.user.specs.Asking.{userSettingsFit, keptFits, userFits, userSetupChecks, requestRoom, ofNode, answerBodyFits, isAnswer, answerChecks, asking}
+use Rattle.user.specs.Outcome.{State, stateOf, Lent, withProgress, withKept, Outcome, nothing, ending, handingOut}
+use Rattle.user.proofs.Ranges.{ProgressInRange, kept-in-range}
 use Rattle.firing.specs.Entry.{entryFits}
 use Rattle.firing.specs.Schedule.{rulesKept}
 use Rattle.user_write.specs.declared.call.Write.{Write}
-use Rattle.user_write.specs.Write.{openedAt, ownLeaf, pathDigest, heldEntry, freshWrite, commitNumber, writeKind, writeLevel, writeWant, writeBody, writeRoom, writeStarted, writeAsks, signsNext, writeChecks, commitSignature, writeSignature, signing, committed, writeUpdates, writeGoes, writeTaken, goesOn}
+use Rattle.user_write.specs.Write.{openedAt, ownLeaf, pathDigest, heldEntry, freshWrite, commitNumber, writeKind, writeLevel, writeWant, writeBody, writeRoom, writeStarted, writeAsks, handing, signsNext, writeChecks, commitSignature, writeSignature, signing, committed, writeUpdates, writeGoes, writeTaken, goesOn}
+use Rattle.user_write.proofs.WriteRanges.{write-fits}
 use Rattle.honest_run.specs.Network.{HonestSetup, InRange, settingsIn}
 use Rattle.honest_run.proofs.Invariant.{Item, hashOf, digestOf, OpenOk, bodyAt}
 use Rattle.honest_run.proofs.Log.{hash-of-leaf}
@@ -45,11 +47,26 @@ asks-right s L w σ m call version path-ok entry signs few =
     ∙ ap (λ (body : List ℕ). handingOut s (writeWant (s .servers) (suc w) j) body σ m call)
     (body-is L w (σ .path) path-ok j text (σ .signature) (sym entry) signs few)
 
--- what is kept once the Commit is signed: the signature, and its number used up
-abbrev pub signedState : State → List ℕ → State
-signedState σ sig =
+-- what is kept once request i is handed out
+abbrev pub handedState : State → ℕ → State
+handedState σ i = let k = σ .kept in withKept σ (withProgress k (handing (suc (k .version)) (k .progress) i))
+
+-- what is kept once the Commit, request i, is signed: the signature, and its number used up
+abbrev pub signedState : State → ℕ → List ℕ → State
+signedState σ i sig =
     let k = σ .kept in
-    stateOf (record { version = k .version; digest = k .digest; number = suc (k .number); opened = true; signed = true }) (σ .path) sig
+    let progress = handing (suc (k .version)) (k .progress) i in
+    stateOf (record { version = k .version; digest = k .digest; number = suc (k .number); opened = true; signed = true; progress = progress }) (σ .path) sig
+
+-- once an answer is taken and the next request goes out, what is kept is in range
+pub asked-progress : (s : Settings) (σ τ : State) (m n : Lent) (call later : Write) (a : List ℕ) → writeTaken s σ m call a ≡ writeAsks s τ n later
+    → τ .kept .opened ≡ true → ProgressInRange (s .servers) (suc (τ .kept .version)) (τ .kept .signed) (τ .kept .progress)
+unfolding writeAsks asking
+asked-progress s σ τ m n call later a e opened =
+    let fits : keptFits (s .servers) (τ .kept) ≡ true =
+    subst (λ (o : Outcome Write). keptFits (s .servers) (o .state .kept) ≡ true) e
+    (write-fits s σ m call a (ap (λ (o : Outcome Write). o .step .code) e)) in
+    kept-in-range (s .servers) (τ .kept) fits .progress opened
 
 -- the answer to request j of the write of p
 abbrev pub accepts : ℕ → ℕ → ℕ → List ℕ
@@ -85,7 +102,7 @@ module _ (c : HonestSetup) (L : ℕ → Item) (w g a : ℕ) (entry : List ℕ) (
 
 -- an open write of user a, and the memory that is lent to it
 module _ (c : HonestSetup) (r : InRange c) (L : ℕ → Item) (w g a : ℕ) (entry : List ℕ) (σ : State) (m : Lent)
-    (opened : σ .kept .opened ≡ true) (in-range : keptFits (σ .kept) ≡ true) (ok : OpenOk c L w g a entry σ)
+    (opened : σ .kept .opened ≡ true) (unbegun : σ .kept .progress .begun ≡ false) (in-range : keptFits (c .servers) (σ .kept) ≡ true) (ok : OpenOk c L w g a entry σ)
     (room : 2566 ≤ length (m .request)) (whole : 65504 ≤ length (m .key .tree)) where
   abbrev k : Kept
   k = σ .kept
@@ -116,11 +133,12 @@ module _ (c : HonestSetup) (r : InRange c) (L : ℕ → Item) (w g a : ℕ) (ent
   pub write-resumes : (randomizer : List ℕ) → entryFits entry ≡ true → rulesKept entry ≡ true
       → writeStarted (settingsIn c a) σ m entry randomizer ≡ writeAsks (settingsIn c a) σ (holding m entry) (freshWrite (σ .kept) entry randomizer)
   write-resumes randomizer shaped ruled =
-      let same : eqs (value (ownLeaf s entry)) (piece (σ .path) 0) ≡ true =
-      ap (eqs (value (ownLeaf s entry))) (sym same-leaf) ∙ eqs-refl (value (ownLeaf s entry)) in
+      let leaves : Bool = eqs (value (ownLeaf s entry)) (piece (σ .path) 0) in
+      let same : (not (k .progress .begun) && leaves) ≡ true =
+      ap (λ (b : Bool). not b && leaves) unbegun ∙ ap (eqs (value (ownLeaf s entry))) (sym same-leaf) ∙ eqs-refl (value (ownLeaf s entry)) in
       passed-starts s σ m entry randomizer
       (start-passes s σ m entry settled in-range room whole shaped ruled
-      (ap (λ (b : Bool). not b || eqs (value (ownLeaf s entry)) (piece (σ .path) 0)) opened ∙ same)
+      (ap (λ (b : Bool). not b || (not (k .progress .begun) && leaves)) opened ∙ same)
       (ap (λ (b : Bool). (b && k .signed) || ltb (k .number) 1024) opened ∙ signed-or-spare))
       ∙ ap (startedWith s σ m entry randomizer) opened
 
@@ -137,9 +155,9 @@ module _ (c : HonestSetup) (r : InRange c) (L : ℕ → Item) (w g a : ℕ) (ent
     answers-few : w′ .answers ≤ commitNumber (suc (k .version))
     answers-few = let e = ap (λ (v : ℕ). commitNumber (suc v)) (ok .version) in omega arith
 
-    waits : (k .opened && leb (w′ .answers) (commitNumber (suc (k .version)))) ≡ true
+    waits : (k .opened && (not (k .progress .begun) && leb (w′ .answers) (commitNumber (suc (k .version))))) ≡ true
     waits =
-        ap (λ (b : Bool). b && leb (w′ .answers) (commitNumber (suc (k .version)))) opened
+        ap₂ (λ (b d : Bool). b && (not d && leb (w′ .answers) (commitNumber (suc (k .version))))) opened unbegun
         ∙ le-leb (w′ .answers) (commitNumber (suc (k .version))) answers-few
 
     is-accepted : (isAnswer (writeWant (c .servers) (suc (k .version)) (w′ .answers)) given ≡ true) × (answerCode given ≡ 0)
@@ -158,7 +176,7 @@ module _ (c : HonestSetup) (r : InRange c) (L : ℕ → Item) (w g a : ℕ) (ent
         (λ e. rw (lt-ltb (k .number) 1024 (ok .unsigned e .1)) (or-true (not (now && true))))
 
     passes : firstCode (writeChecks s k m w′ given) ≡ 0
-    unfolding writeChecks userSetupChecks writeRoom requestRoom answerChecks firstCode
+    unfolding writeChecks userSetupChecks userFits writeRoom requestRoom answerChecks firstCode
     passes =
         rw (
           settled,
@@ -204,16 +222,24 @@ module _ (c : HonestSetup) (r : InRange c) (L : ℕ → Item) (w g a : ℕ) (ent
           (λ q. ap (λ (b : Bool). eqb (suc (w′ .answers)) last && not b) (signed (q ∙ e)) ∙ and-false (eqb (suc (w′ .answers)) last))
           (λ q. rw (ne-eqb (suc (w′ .answers)) (commitNumber (suc (k .version))) q))
 
-      -- what is kept stays where no signature is made
-      same-state : signsNext k w′ ≡ false → goesOn s σ (m .key) w′ ≡ σ
+      -- what is kept stays where no signature is made, but for the request that is handed out
+      same-state : signsNext k w′ ≡ false → goesOn s σ (m .key) w′ ≡ handedState σ (suc (w′ .answers))
       unfolding goesOn signing writeSignature
       same-state n =
-          rw n (ap₂ (λ (o b : Bool). withKept σ (record { version = k .version; digest = k .digest; number = k .number; opened = o; signed = b }))
-          (sym opened) (or-false (k .signed)))
+          let progress = handing (suc (k .version)) (k .progress) (suc (w′ .answers)) in
+          rw n (ap₂ (λ (o b : Bool). withKept σ (record {
+            version = k .version;
+            digest = k .digest;
+            number = k .number;
+            opened = o;
+            signed = b;
+            progress = progress;
+          })) (sym opened) (or-false (k .signed)))
 
-      -- where no signature is to be made, all that is kept stays
+      -- where no signature is to be made
       pub write-continues : (suc (w′ .answers) ≡ commitNumber (suc w) → k .signed ≡ true)
-          → writeTaken (settingsIn c a) σ m w′ given ≡ writeAsks (settingsIn c a) σ m (openedAt w′ (suc (w′ .answers)))
+          → writeTaken (settingsIn c a) σ m w′ given
+          ≡ writeAsks (settingsIn c a) (handedState σ (suc (w′ .answers))) m (openedAt w′ (suc (w′ .answers)))
       write-continues signed = next-goes ∙ ap (λ (τ : State). writeAsks s τ m later) (same-state (unsigned-next signed))
 
       -- the next request is the Commit, and there is no signature yet: it is made, with the key's next number
@@ -224,17 +250,20 @@ module _ (c : HonestSetup) (r : InRange c) (L : ℕ → Item) (w g a : ℕ) (ent
             let e = ap (λ (v : ℕ). commitNumber (suc v)) (ok .version) in
             rw (eq-eqb (suc (w′ .answers)) (commitNumber (suc (k .version))) (omega arith)) (ap not unsigned)
 
-        signed-state : goesOn s σ (m .key) w′ ≡ signedState σ (commitSignature (c .log) (suc w) (m .key) (k .number) (w′ .randomizer) (σ .path))
+        signed-state : goesOn s σ (m .key) w′
+            ≡ signedState σ (suc (w′ .answers)) (commitSignature (c .log) (suc w) (m .key) (k .number) (w′ .randomizer) (σ .path))
         unfolding goesOn signing writeSignature
         signed-state =
             let number = suc (k .number) in
+            let progress = handing (suc (k .version)) (k .progress) (suc (w′ .answers)) in
             rw signs-now
             (ap₂ (λ (b : Bool) (v : ℕ).
-            stateOf (record { version = k .version; digest = k .digest; number = number; opened = true; signed = b }) (σ .path)
+            stateOf (record { version = k .version; digest = k .digest; number = number; opened = true; signed = b; progress = progress }) (σ .path)
             (commitSignature (c .log) (suc v) (m .key) (k .number) (w′ .randomizer) (σ .path))) (or-true (k .signed)) (ok .version))
 
         -- the signature is made, and the Commit goes out
         pub write-signs : writeTaken (settingsIn c a) σ m w′ given
-            ≡ writeAsks (settingsIn c a) (signedState σ (commitSignature (c .log) (suc w) (m .key) (k .number) (w′ .randomizer) (σ .path))) m
+            ≡ writeAsks (settingsIn c a)
+            (signedState σ (suc (w′ .answers)) (commitSignature (c .log) (suc w) (m .key) (k .number) (w′ .randomizer) (σ .path))) m
             (openedAt w′ (suc (w′ .answers)))
         write-signs = next-goes ∙ ap (λ (τ : State). writeAsks s τ m later) signed-state
