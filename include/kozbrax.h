@@ -24,13 +24,13 @@ extern "C" {
 #define KOZBRAX_RANDOMIZER 32
 #define KOZBRAX_SIGNATURE 2508
 #define KOZBRAX_LOG_NAME 16
-#define KOZBRAX_HEAD 39        /* a server's head */
+#define KOZBRAX_HEAD 79        /* a server's head, with the one before it */
 #define KOZBRAX_RECORD 2552    /* the longest record that one request adds to a server's store */
 #define KOZBRAX_REQUEST 2566   /* the longest request of a user, and the least length of a buffer for it */
 #define KOZBRAX_ANSWER 2552    /* the longest answer of a server, and the least length of a buffer for it */
 #define KOZBRAX_ENTRY 1024     /* the longest entry, and the least length of a buffer for one that is read */
 #define KOZBRAX_STRIKE 5       /* an entry that strikes */
-#define KOZBRAX_KEPT 42        /* kept, path and signature: a user's between calls */
+#define KOZBRAX_KEPT 46        /* kept, path and signature: a user's between calls */
 #define KOZBRAX_PATH 672
 #define KOZBRAX_CALL 82        /* call, hashes and held: a user's during a call */
 #define KOZBRAX_HASHES 1248
@@ -64,6 +64,7 @@ enum kozbrax_code {
   KOZBRAX_BAD_COMMIT = 7,             /* the digest is not the reserved one, or the signature fails */
   KOZBRAX_NOT_STORED = 8,             /* nothing is stored that could be answered */
   KOZBRAX_STORE_FULL = 9,             /* the new record is longer than the free part of the store */
+  KOZBRAX_NOTHING_TO_GIVE_UP = 27,    /* give-up: not the head's position, author and digest, or no earlier head is known */
 
   /* A user's; 17, 19, 21, 22, 24 and 26 of other functions too. */
   KOZBRAX_BAD_ANSWER = 10,            /* no answer to the request that is out */
@@ -74,7 +75,7 @@ enum kozbrax_code {
   KOZBRAX_OWN_DIGEST_DIFFERS = 15,    /* the cover does not give the user's own digest */
   KOZBRAX_RECORD_DIGEST_DIFFERS = 16, /* the cover does not give the Record's digest */
   KOZBRAX_KEY_SPENT = 17,             /* the signature number is 1,024 */
-  KOZBRAX_WRITE_OPEN = 18,            /* a write is open: it comes first */
+  KOZBRAX_WRITE_OPEN = 18,            /* a write is open: it comes first, or its give-up where one has begun */
   KOZBRAX_BAD_ENTRY = 19,             /* the entry's length, first byte, strike length or strike target */
   KOZBRAX_LOG_FULL = 20,              /* the position would be above 1,048,576 */
   KOZBRAX_BUFFER_SHORT = 21,          /* a lent buffer is too short, or the board's two lists differ in length */
@@ -82,6 +83,7 @@ enum kozbrax_code {
   KOZBRAX_READ_DIFFERS = 23,          /* what was read does not give the user's own digest */
   KOZBRAX_BAD_POSITION = 24,          /* the position is not 1 to the version; of a digest: the leaves' length */
   KOZBRAX_BAD_SCHEDULE = 26,          /* no firing schedule, or one against the rules */
+  KOZBRAX_CANNOT_GIVE_UP = 28,        /* no write is open, or its PutOperation was handed out */
 
   /* Those of the reports on firing schedules. */
   KOZBRAX_BAD_STARTS = 32,            /* the range of start temperatures, or a start that the first rate does not fit */
@@ -95,10 +97,11 @@ enum kozbrax_code {
    A user's kept, path and signature, where a step changed them, before the request that this step handed out is sent, and before the end
    of a call is reported. The danger is in the step of a Write that signs: it hands out the Commit. If that is sent first and power fails
    before kept, path and signature are saved, the resumed write signs again under the same number. A key that signs two texts under one
-   number, or one text with two randomizers, can be forged. A refused step and the start of a call change nothing of the three.
+   number, or one text with two randomizers, can be forged. A refused step changes nothing of the three, and of the starts of a call only
+   kozbrax_give_up_start does.
    call, hashes and held need not be saved: a call that was cut is started anew, an open write by kozbrax_write_start with the same
-   entry. So the entry of a Write is saved by the caller too, before the first Reserve is sent: no other entry can be written while it is
-   open.
+   entry, a give-up by kozbrax_give_up_start. So the entry of a Write is saved by the caller too, before the first Reserve is sent: no
+   other entry can be written while it is open, and from its PutOperation on it cannot be given up.
 
    A server's head, the used part of its store and `used`, where a call changed them, before the answer leaves.
 
@@ -235,13 +238,17 @@ typedef struct {
 } kozbrax_served;
 
 /* One call of server own, of `servers`: takes in a request of any bytes. log has 16 bytes; users are the public keys, 56 bytes each.
-   head has KOZBRAX_HEAD, 39, bytes, big-endian: p (4 bytes at 0), l (1 at 4), author (2 at 5), digest (32 at 7); all zero at first. The
-   first `used` bytes of store are its records; at first there are none. The caller keeps head, store and `used` from call to call.
+   head has KOZBRAX_HEAD, 79, bytes, big-endian: p (4 bytes at 0), l (1 at 4), author (2 at 5), digest (32 at 7); and the head that was
+   there before the first Reserve for p: known (1 at 39), 1 or 0, its p (4 at 40), l (1 at 44), author (2 at 45), digest (32 at 47). All
+   are zero at first, and those from 39 on where no earlier head is known. The first `used` bytes of store are its records; at first there
+   are none. The caller keeps head, store and `used` from call to call.
+   A give-up (kind 9, laid out as a Reserve) of the head's p, author and digest brings the earlier head back, and then no earlier one is
+   known.
    Returns the code: 22 where `servers` is not 2 to 16, own not 1 to `servers`, users_len not 56 to 3,584 in steps of 56, the head out
-   of range, `used` above store_len or the used part not whole stored records; else 21 where answer_len is below KOZBRAX_ANSWER,
-   2,552; else 0 to 9, as the answer says.
-   Leaves, on 0: the request's effect on head or on store and `used`, and the answer in the first bytes. On 1 to 9: the answer, and head
-   and store as they were. On 21 and 22: everything as it was. The bytes past the answer, and past the used part, stay as they were.
+   of range, known above 1, the earlier head, where known, out of range or its p not below the head's, `used` above store_len or the used
+   part not whole stored records; else 21 where answer_len is below KOZBRAX_ANSWER, 2,552; else 0 to 9 or 27, as the answer says.
+   Leaves, on 0: the request's effect on head or on store and `used`, and the answer in the first bytes. On 1 to 9 and 27: the answer, and
+   head and store as they were. On 21 and 22: everything as it was. The bytes past the answer, and past the used part, stay as they were.
    Custody: on 0, where head or `used` has changed, head, the used part of store and `used` are on stable storage before the answer
    leaves. A call adds one record of at most KOZBRAX_RECORD bytes behind the used part, or changes the head, or neither; it never changes
    a record. On any other code there is nothing to save. Where saving fails the answer must not leave, and the server starts again from
@@ -252,20 +259,26 @@ kozbrax_served kozbrax_server(uint32_t servers, uint32_t own, const uint8_t *log
 
 /* A user. What it keeps, and the call that goes on, are lent bytes, big-endian, that the caller keeps from call to call:
 
-   kept, KOZBRAX_KEPT (42) bytes, all zero for a new user:
-     version (4 bytes at 0), digest (32 at 4), next signature number (4 at 36), opened (1 at 40), signed (1 at 41); the last two are 1 or 0
+   kept, KOZBRAX_KEPT (46) bytes, all zero for a new user:
+     version (4 bytes at 0), digest (32 at 4), next signature number (4 at 36), opened (1 at 40), signed (1 at 41)
+     of an open write: levels (1 at 42), for how many levels of its path a Reserve was handed out; put (1 at 43), whether its PutOperation
+       was; begun (1 at 44), whether a give-up of it has begun; done (1 at 45), the last server that is done with the give-up, 0 for none
+     opened, signed, put and begun are 1 or 0
    path, KOZBRAX_PATH (672) bytes, and signature, KOZBRAX_SIGNATURE (2,508): of an open write
    call, KOZBRAX_CALL (82) bytes, all zero before the first start, and where a caller drops a call without starting another: zero bytes take
    no answer; the bytes that a kind does not name keep their contents:
-     kind (1 at 0): 1 Update, 2 Write, 3 Read
+     kind (1 at 0): 1 Update, 2 Write, 3 Read, 4 give-up
      Update and Write: answers (1 at 1), greatest (4 at 2), least (4 at 6), position (4 at 10), digest (32 at 14)
      Write as well: opened (1 at 46), answers (1 at 47), randomizer (32 at 48), length (2 at 80)
      Read: position (4 at 1), answers (1 at 5), length (2 at 6)
+     give-up: waits (1 at 1), 1 while a request of it is out, else 0
    hashes, KOZBRAX_HASHES (1,248) bytes, and held, KOZBRAX_HELD (1,026): the call's memory, with any contents at its start
 
    log has 16 bytes; users are the users' public keys, 56 bytes each. own is the user's number, from 1. Every function returns 22 where
    `servers` is not 2 to 16, users_len not 56 to 3,584 in steps of 56, own not a number of the users, or what is kept out of range: the
-   version above 1,048,576, or equal to it with a write open, the signature number above 1,024, opened or signed above 1.
+   version above 1,048,576, the signature number above 1,024, opened, signed, put or begun above 1; or, with a write open, the version
+   1,048,576, levels not 1 to the level of the write's position and 1 more, signed without put, begun with put, or done above `servers`,
+   or above 0 without begun.
 
    A call goes so: a start hands out the first request and names the server that it goes to; each answer is given to kozbrax_take, which
    hands out the next request, until the call has ended.
@@ -300,8 +313,9 @@ kozbrax_asked kozbrax_update_start(uint32_t servers, uint32_t own, const uint8_t
 
 /* Starts a Write of an entry, or resumes the open write of that entry. tree is the key's; randomizer has 32 bytes.
    Returns the code: 22; else 21 where request_len is below KOZBRAX_REQUEST or tree_len below KOZBRAX_TREE; else 18 where a write of
-   another entry is open; else 19 where the entry has another shape than kozbrax_schedule names; else 26 where it begins with 3 and
-   breaks the rules named there; else 17 where the signature number is 1,024 and no signed write is open; else 0.
+   another entry is open, or a give-up of the open write has begun; else 19 where the entry has another shape than kozbrax_schedule names;
+   else 26 where it begins with 3 and breaks the rules named there; else 17 where the signature number is 1,024 and no signed write is
+   open; else 0.
    Leaves, on 0: the Write in call, the entry in the first bytes of held, and the first request. Else: everything as it was.
    Custody: changes nothing of kept, path and signature; but the entry is saved before the first Reserve is sent, since only this entry can
    resume the write.
@@ -323,6 +337,29 @@ kozbrax_asked kozbrax_read_start(uint32_t servers, uint32_t own, const uint8_t *
                                  uint32_t position, const uint8_t *kept, uint8_t *call, uint8_t *request, size_t request_len,
                                  const uint8_t *entry, size_t entry_len);
 
+/* Starts a give-up of the open write, or repeats one that has begun: it tells every server that a Reserve of the write was handed out for,
+   in the order of their numbers, each with one request of kind 9 and one answer. kept and path are the open write's; kept is written.
+   It may be started at any time while a write is open and its PutOperation was not handed out, also where a call goes on: it takes that
+   call's place in `call`.
+   Returns the code: 22; else 28 where no write is open, or its PutOperation was handed out in any call of it; else 21 where request_len is
+   below KOZBRAX_REQUEST; else 0.
+   Leaves, on 0: begun in kept, the give-up in call, and in the first bytes of request its request to the first server that is not done;
+   where every server is done, no request but the end (ended is 1), with the write closed. Else: everything as it was.
+   The answers go to kozbrax_take. A server is done once it has answered 0, or 27: its head is not this write's, or no longer, as where the
+   Reserve was refused or never came, or where this give-up was taken and its answer lost. Any other answer is refused, and the same server
+   is still to be told. With the last server's answer the write is closed: version, digest and signature number are as they were when the
+   first Reserve was handed out, and an Update or a Write may start.
+   Once begun, a give-up can only be repeated: kozbrax_update_start and kozbrax_write_start return 18, with the same entry too, and an
+   answer to a request of the write is refused 10; a Read may go on. A call that was cut is repeated by this function, which skips the
+   servers that are done.
+   Custody: on 0, kept is on stable storage before the request is sent. Unsaved, the write could be resumed while a server has already taken
+   its Reserve back, and the views of two users could part.
+   What the caller sees to on the way to a server: a give-up comes to it from its author alone, once each time that it was handed out, and
+   before any later request of this user or a copy of one; and an answer to a Reserve that was handed out before the give-up is not given
+   to kozbrax_take for an equal Reserve that was handed out after it. That two views part no longer than the wait rests on this. */
+kozbrax_asked kozbrax_give_up_start(uint32_t servers, uint32_t own, const uint8_t *log, const uint8_t *users, size_t users_len,
+                                    uint8_t *kept, const uint8_t *path, uint8_t *call, uint8_t *request, size_t request_len);
+
 /* Takes in an answer of any bytes to the call's last request. id (16 bytes), seed (32) and tree are the key's; only a Write reads them.
    Returns the code: 0 with the next request, or at the call's end; else the first that holds, by what call says:
      every call: 22; 21 where request_len is below KOZBRAX_REQUEST
@@ -333,21 +370,27 @@ kozbrax_asked kozbrax_read_start(uint32_t servers, uint32_t own, const uint8_t *
        does not give the Record's
      Write that is not open: its Update's codes in that order; where the Update ends, 20 where it has come to position 1,048,576, and 19
        where the entry strikes position 0 or one above the Update's
-     Write that is open: 21 also where tree_len is below KOZBRAX_TREE; 10; 11; 17 where the Commit comes next, it is not signed yet and the
-       signature number is 1,024
+     Write that is open: 21 also where tree_len is below KOZBRAX_TREE; 10, also where a give-up has begun; 11; 17 where the Commit comes
+       next, it is not signed yet and the signature number is 1,024
      Read: 21 also where entry_len is below KOZBRAX_ENTRY; 24 where its position is not 1 to the version; 10; 11; for the last answer 23
        where author, entry and nodes do not give the own digest
-     no call, the kind not 1 to 3 or a Write's opened above 1: 10
+     give-up: between 22 and 21, 28 where no write is open or its PutOperation was handed out; 10; 11 where the server refused, but not
+       with 27
+     no call, the kind not 1 to 4, or a Write's opened or a give-up's waits above 1: 10
    Leaves, on 0: the call's next state in call, hashes and held, what is kept in kept, path and signature, the next request, where there
    is one, in the first bytes of request, and the entry of a Read that has ended in the first bytes of entry; the bytes past the request
    and past the entry stay as they were. Else: everything as it was.
    Custody: on 0, kept, path and signature are on stable storage before the request is sent or the call's end is reported. They change
      at the end of an Update (version, digest): unsaved, the user could later take a log that differs from the one it has seen;
-     where a Write hands out its first Reserve (version, digest, opened, path): unsaved, the user cannot resume this write, and no
-       user can write any more: the Record that their Updates ask for is missing;
+     where a Write hands out its first Reserve (version, digest, opened, levels, path): unsaved, the user can neither resume this write
+       nor give it up, and no user can write any more: the Record that their Updates ask for is missing;
+     where a Write hands out a Reserve for a level that it had none handed out for (levels): unsaved, a give-up may leave out that server,
+       whose head then stays at this position;
+     where a Write first hands out its PutOperation (put): unsaved, a write that a server has stored could be given up;
      where a Write hands out its Commit and was not signed before (number, signed, signature): unsaved, the key may sign twice under one
        number;
-     at the end of a Write (version, digest, opened, signed): unsaved, the write is open still, and resuming it ends it.
+     at the end of a Write (version, digest, opened, signed, levels, put): unsaved, the write is open still, and resuming it ends it;
+     at each answer of a give-up (done, at its end opened, levels, begun and done): unsaved, it is repeated from the last server saved.
    A Read changes none of them. On any other code there is nothing to save. */
 kozbrax_asked kozbrax_take(uint32_t servers, uint32_t own, const uint8_t *log, const uint8_t *users, size_t users_len, const uint8_t *id,
                            const uint8_t *seed, const uint8_t *tree, size_t tree_len, const uint8_t *answer, size_t answer_len,

@@ -1,80 +1,137 @@
--- The server's call over the head's 39 bytes.
+-- The server's call over the head's 79 bytes.
 use mathlib.Core.Path.{_≡_, refl, _∙_, sym, ap, ap₂}
-use mathlib.Core.Bool.{true, false, _&&_}
-use mathlib.Core.List.{List, _∷_, _++_, append-assoc}
+use mathlib.Core.Bool.{Bool, true, false, cond, _&&_}
+use mathlib.Core.List.{List, [], _∷_, _++_, append-assoc}
 use Prim.Native.Nat.{ℕ, zero, suc, _+_, _*_, _/_, _%_, _^_, _≤_, _<_, min}
 use native.Mathlib.Nat.{add-zero, pow-suc, mul-le-mul-right}
 use native.Mathlib.Omega.{arith}
 use lib.Arith.{digits-div, digits-mod}
-use lib.Dec.{leb}
-use lib.ListN.{length, drop, getD, replicate, length-append, length-drop, length-replicate}
-use lib.Seq.{take-all, drop-cons}
+use lib.Dec.{eqb, leb}
+use lib.ListN.{length, take, drop, getD, replicate, length-append, length-drop, length-replicate, take-append-drop}
+use lib.Seq.{take-all, take-at, drop-at, drop-cons, drop-drop, getD-drop}
 use borrow.Author.Tests.{eq-eqb, ne-eqb, leb-true}
 use Rattle.sha256.specs.Bytes.{be, numberAt, written}
-use Rattle.sha256.proofs.Laws.{be-length, be-mod, number-be, written-whole}
-use Rattle.sha256.proofs.Numbers.{be-two, be-four, number-two}
+use Rattle.sha256.proofs.Laws.{be-length, be-mod, written-whole, filled-twice}
+use Rattle.sha256.proofs.Numbers.{be-two, be-four, number-two, number-four}
+use Rattle.sha256.proofs.Words.{number-drop}
 use Rattle.sha256.proofs.Window.{elements}
 use Rattle.tree.specs.Cover.{piece}
-use Rattle.tree.proofs.Cases.{and-true}
+use Rattle.tree.proofs.Cases.{by-eqb, and-true}
 use Rattle.tree.proofs.Messages.{be-one, number-elements, three-parts}
-use Rattle.tree.proofs.Pieces.{piece-whole}
-use Rattle.tree.specs.Setup.{groupFits, firstCode, settings}
+use Rattle.tree.specs.Setup.{Settings, settings, userCount, groupFits, inLog, firstCode}
 use Rattle.tree.specs.Inner.{settingsOf}
 use Rattle.server.specs.declared.Head.{Head}
+use Rattle.server.specs.declared.Earlier.{Earlier}
 use Rattle.server.specs.declared.Out.{Out}
-use Rattle.server.specs.Checks.{serverSetupChecks, serverSettingsFit}
-use Rattle.server.specs.Serve.{refusedSetup, served}
+use Rattle.server.specs.Checks.{serverSetupChecks, serverSettingsFit, placeFits, headFits}
+use Rattle.server.specs.Serve.{ServeOutcome, refusedSetup, served}
 use Rattle.tree.proofs.Groups.{group-fits}
 use Rattle.server.proofs.Served.{served-refused}
 use Rattle.server.proofs.Sizes.{answer-at-most-2552}
 use Rattle.tree.specs.declared.setup.Config.{Config}
 use Rattle.server.specs.Inner.{Serves}
 use Rattle.c_layout.specs.Inner.{configOf}
-use Rattle.c_layout.specs.Server.{headBytes, headOf, resultOf, serverAnswered, ServerYields}
+use Rattle.c_layout.specs.Mark.{markOf}
+use Rattle.c_layout.specs.Server.{placeBytes, headBytes, earlierOf, headOf, resultOf, serverAnswered, ServerYields}
 use Rattle.c_layout.specs.declared.serving.Served.{Served}
 use Rattle.c_layout.proofs.Narrowed.{narrowed}
+use Rattle.c_layout.proofs.States.{part-read}
+use Rattle.c_layout.proofs.Inverses.{four, mark-fits, mark-read}
 
 -- the head that is read, and the bytes that are laid
-pub head-read : (b : List ℕ) (p a : ℕ) (t d : List ℕ) → length b ≡ 39 → p ≡ numberAt 4 b 0 → a ≡ numberAt 2 b 5 → t ≡ drop 7 b → d ≡ piece t 0
-    → _≡_ {A = Head} (record { position = p; level = getD b 4 0; author = a; digest = d }) (headOf b)
+pub earlier-read : (b t d : List ℕ) (p a : ℕ) (k : Bool) → length b ≡ 79 → p ≡ numberAt 4 b 40 → a ≡ numberAt 2 b 45 → t ≡ drop 47 b → d ≡ piece t 0
+    → k ≡ eqb (getD b 39 0) 1
+    → _≡_ {A = Earlier} (record { known = k; position = p; level = getD b 44 0; author = a; digest = d }) (earlierOf b)
+unfolding earlierOf
+earlier-read b t d p a k l ep ea et ed ek =
+    let ld = length-drop 47 b in
+    let e : d ≡ drop 47 b = part-read b t d 47 (omega arith) et ed ∙ take-all 32 (drop 47 b) (omega arith) in
+    rw (ek, ep, ea, e)
+
+pub head-read : (b t d : List ℕ) (n p a : ℕ) (f : Bool) (earlier : Earlier) → length b ≡ 79 → f ≡ leb (getD b 39 0) 1 → n ≡ numberAt 4 b 0
+    → p ≡ cond f n 4294967295 → a ≡ numberAt 2 b 5 → t ≡ drop 7 b → d ≡ piece t 0 → earlier ≡ earlierOf b
+    → _≡_ {A = Head} (record { position = p; level = getD b 4 0; author = a; digest = d; earlier = earlier }) (headOf b)
 unfolding headOf
-head-read b p a t d l ep ea et ed =
-    let ld = length-drop 7 b in
-    let e : d ≡ drop 7 b = ed ∙ ap (λ (x : List ℕ). piece x 0) et ∙ piece-whole (drop 7 b) 0 (omega arith) ∙ take-all 32 (drop 7 b) (omega arith) in
-    rw (ep, ea, e)
+head-read b t d n p a f earlier l ef en ep ea et ed ee =
+    let e : d ≡ take 32 (drop 7 b) = part-read b t d 7 (omega arith) et ed in
+    rw (ep, ef, en, ea, e, ee)
 
-pub head-laid : (h : Head) (p a out : List ℕ) → length (h .digest) ≡ 32 → h .level < 256 → p ≡ be 4 (h .position) → a ≡ be 2 (h .author)
-    → out ≡ written (replicate 39 0) 0 ((elements p 0 4 ++ (h .level ∷ elements a 0 2)) ++ h .digest) → out ≡ headBytes h
-unfolding headBytes
-head-laid h p a out ld hl ep ea eo =
-    let parts : (elements p 0 4 ++ (h .level ∷ elements a 0 2)) ++ h .digest ≡ be 4 (h .position) ++ (be 1 (h .level) ++ (be 2 (h .author) ++ h .digest)) =
-    three-parts (λ x y z. (x ++ (h .level ∷ y)) ++ z) (number-elements 4 (h .position) p ep) (number-elements 2 (h .author) a ea) refl
-    ∙ rw (be-one (h .level) hl) (append-assoc (be 4 (h .position)) (h .level ∷ be 2 (h .author)) (h .digest)) in
-    let size : length (be 4 (h .position) ++ (be 1 (h .level) ++ (be 2 (h .author) ++ h .digest))) ≡ 39 =
-    simp length-append (omega (arith, be-length 4 (h .position), be-length 1 (h .level), be-length 2 (h .author))) in
+place-size : (p l a : ℕ) (d : List ℕ) → length d ≡ 32 → length (placeBytes p l a d) ≡ 39
+unfolding placeBytes
+place-size p l a d ld = simp length-append (omega (arith, be-length 4 p, be-length 1 l, be-length 2 a))
+
+pub place-laid : (position level author : ℕ) (d p a out : List ℕ) → length d ≡ 32 → level < 256 → p ≡ be 4 position → a ≡ be 2 author
+    → out ≡ written (replicate 39 0) 0 ((elements p 0 4 ++ (level ∷ elements a 0 2)) ++ d) → out ≡ placeBytes position level author d
+unfolding placeBytes
+place-laid position level author d p a out ld hl ep ea eo =
+    let parts : (elements p 0 4 ++ (level ∷ elements a 0 2)) ++ d ≡ be 4 position ++ (be 1 level ++ (be 2 author ++ d)) =
+    three-parts (λ x y z. (x ++ (level ∷ y)) ++ z) (number-elements 4 position p ep) (number-elements 2 author a ea) refl
+    ∙ rw (be-one level hl) (append-assoc (be 4 position) (level ∷ be 2 author) d) in
+    let size : length (be 4 position ++ (be 1 level ++ (be 2 author ++ d))) ≡ 39 = place-size position level author d ld in
     eo ∙ ap (written (replicate 39 0) 0) parts
-    ∙ written-whole (replicate 39 0) (be 4 (h .position) ++ (be 1 (h .level) ++ (be 2 (h .author) ++ h .digest))) (omega (arith, length-replicate {A = ℕ} 39 0))
+    ∙ written-whole (replicate 39 0) (be 4 position ++ (be 1 level ++ (be 2 author ++ d))) (omega (arith, length-replicate {A = ℕ} 39 0))
 
--- The bytes of a head, written out.
-head-elements : (h : Head) → h .level < 256
-    → headBytes h ≡ h .position / 16777216 % 256 ∷ h .position / 65536 % 256 ∷ h .position / 256 % 256 ∷ h .position % 256
-    ∷ h .level ∷ h .author / 256 % 256 ∷ h .author % 256 ∷ h .digest
+pub head-laid : (h : Head) (mark : ℕ) (first rest s₁ s₂ : List ℕ) → length first ≡ 39 → length rest ≡ 39 → mark ≡ markOf (h .earlier .known)
+    → first ≡ placeBytes (h .position) (h .level) (h .author) (h .digest)
+    → rest ≡ placeBytes (h .earlier .position) (h .earlier .level) (h .earlier .author) (h .earlier .digest)
+    → s₁ ≡ written (replicate 79 0) 0 (first ++ (mark ∷ [])) → s₂ ≡ written s₁ 40 rest → s₂ ≡ headBytes h
 unfolding headBytes
-head-elements h l = rw (be-four (h .position), be-one (h .level) l, be-two (h .author))
+head-laid h mark first rest s₁ s₂ lf lr em ef er e₁ e₂ =
+    let whole : s₂ ≡ (first ++ (mark ∷ [])) ++ rest =
+    filled-twice (replicate 79 0) (first ++ (mark ∷ [])) rest s₁ s₂ 40 (simp length-append (omega arith)) (omega (arith, length-replicate {A = ℕ} 79 0)) e₁ e₂ in
+    whole ∙ append-assoc first (mark ∷ []) rest ∙ rw (em, ef, er)
 
-position-first : (h : Head) → h .position < 4294967296 → numberAt 4 (headBytes h) 0 ≡ h .position
-unfolding headBytes
-position-first h b = number-be 4 (h .position) (be 1 (h .level) ++ (be 2 (h .author) ++ h .digest)) b
+-- The bytes of a position, level, author and digest, written out.
+place-elements : (p l a : ℕ) (d : List ℕ) → l < 256
+    → placeBytes p l a d ≡ p / 16777216 % 256 ∷ p / 65536 % 256 ∷ p / 256 % 256 ∷ p % 256 ∷ l ∷ a / 256 % 256 ∷ a % 256 ∷ d
+unfolding placeBytes
+place-elements p l a d h = rw (be-four p, be-one l h, be-two a)
 
 -- A head that a call leaves is the head that the next call reads.
-pub decode-encode : (h : Head) → h .position < 4294967296 → h .level < 256 → h .author < 65536 → headOf (headBytes h) ≡ h
-unfolding headOf
-decode-encode h hp hl ha =
-    let e = head-elements h hl in
-    let author : numberAt 2 (headBytes h) 5 ≡ h .author = number-two (headBytes h) 5 ∙ rw e (omega arith) in
-    let level : getD (headBytes h) 4 0 ≡ h .level = ap (λ (s : List ℕ). getD s 4 0) e in
-    let digest : drop 7 (headBytes h) ≡ h .digest = ap (drop 7) e in
-    rw (position-first h hp, level, author, digest)
+module _ (h : Head) (size : length (h .digest) ≡ 32) (hl : h .level < 256) (el : h .earlier .level < 256) where
+  abbrev before : Earlier
+  before = h .earlier
+
+  abbrev behind : List ℕ
+  behind = markOf (before .known) ∷ placeBytes (before .position) (before .level) (before .author) (before .digest)
+
+  front-laid : headBytes h ≡ h .position / 16777216 % 256 ∷ h .position / 65536 % 256 ∷ h .position / 256 % 256 ∷ h .position % 256
+      ∷ h .level ∷ h .author / 256 % 256 ∷ h .author % 256 ∷ (h .digest ++ behind)
+  unfolding headBytes
+  front-laid = ap (λ (x : List ℕ). x ++ behind) (place-elements (h .position) (h .level) (h .author) (h .digest) hl)
+
+  behind-laid : drop 39 (headBytes h) ≡ markOf (before .known) ∷ before .position / 16777216 % 256 ∷ before .position / 65536 % 256
+      ∷ before .position / 256 % 256 ∷ before .position % 256 ∷ before .level ∷ before .author / 256 % 256 ∷ before .author % 256 ∷ before .digest
+  behind-laid =
+      rw front-laid (drop-at (h .digest) behind 32 size)
+      ∙ ap (λ (x : List ℕ). markOf (before .known) ∷ x) (place-elements (before .position) (before .level) (before .author) (before .digest) el)
+
+  byte-behind : (i : ℕ) → getD (headBytes h) (39 + i) 0 ≡ getD (drop 39 (headBytes h)) i 0
+  byte-behind i = sym (getD-drop 39 (headBytes h) i 0)
+
+  earlier-decoded : before .position < 4294967296 → before .author < 65536 → earlierOf (headBytes h) ≡ before
+  unfolding earlierOf
+  earlier-decoded hp ha =
+      let b = headBytes h in
+      let known : getD b 39 0 ≡ markOf (before .known) = byte-behind 0 ∙ ap (λ (x : List ℕ). getD x 0 0) behind-laid in
+      let position : numberAt 4 b 40 ≡ before .position =
+      sym (number-drop 4 b 39 1) ∙ number-four (drop 39 b) 1 ∙ rw behind-laid (four (before .position) hp) in
+      let level : getD b 44 0 ≡ before .level = byte-behind 5 ∙ ap (λ (x : List ℕ). getD x 5 0) behind-laid in
+      let author : numberAt 2 b 45 ≡ before .author = sym (number-drop 2 b 39 6) ∙ number-two (drop 39 b) 6 ∙ rw behind-laid (omega arith) in
+      let digest : drop 47 b ≡ before .digest = sym (drop-drop 8 39 b) ∙ ap (drop 8) behind-laid in
+      rw (known, mark-read (before .known), position, level, author, digest)
+
+  pub decode-encode : h .position < 4294967296 → h .author < 65536 → before .position < 4294967296 → before .author < 65536
+      → headOf (headBytes h) ≡ h
+  unfolding headOf
+  decode-encode hp ha ep ea =
+      let b = headBytes h in
+      let known : getD b 39 0 ≡ markOf (before .known) = byte-behind 0 ∙ ap (λ (x : List ℕ). getD x 0 0) behind-laid in
+      let position : numberAt 4 b 0 ≡ h .position = number-four b 0 ∙ rw front-laid (four (h .position) hp) in
+      let level : getD b 4 0 ≡ h .level = ap (λ (x : List ℕ). getD x 4 0) front-laid in
+      let author : numberAt 2 b 5 ≡ h .author = number-two b 5 ∙ rw front-laid (omega arith) in
+      let digest : take 32 (drop 7 b) ≡ h .digest = rw front-laid (take-at (h .digest) behind 32 size) in
+      rw (known, mark-fits (before .known), position, level, author, digest, earlier-decoded ep ea)
 
 -- the bytes of the number that bytes stand for are those bytes
 module _ (b : List ℕ) (bytes : (i : ℕ) → getD b i 0 < 256) where
@@ -102,12 +159,33 @@ module _ (b : List ℕ) (bytes : (i : ℕ) → getD b i 0 < 256) where
       let e : i + suc n ≡ suc i + n = omega arith in
       rw e (ap (λ (l : List ℕ). getD b i 0 ∷ l) (elements-rest n (suc i) (omega arith)) ∙ sym (drop-cons b i 0 (omega arith)))
 
+  place-number : (i : ℕ) (d : List ℕ) → let level = suc (suc (suc (suc i))) in
+      placeBytes (numberAt 4 b i) (getD b level 0) (numberAt 2 b (suc level)) d ≡ elements b i 7 ++ d
+  unfolding placeBytes
+  place-number i d = let level = suc (suc (suc (suc i))) in
+      rw (be-number 4 i, be-one (getD b level 0) (bytes level), be-number 2 (suc level))
+
+  mark-kept : (x : ℕ) → leb x 1 ≡ true → markOf (eqb x 1) ≡ x
+  unfolding markOf
+  mark-kept x t =
+      let h = leb-true x 1 t in
+      by-eqb (λ b. markOf b ≡ x) x 1 (λ e. sym e) (λ n. omega arith)
+
   -- A call that is accepted and leaves the head leaves its bytes.
-  pub encode-decode : length b ≡ 39 → headBytes (headOf b) ≡ b
-  unfolding headBytes headOf
-  encode-decode l =
-      let level : be 1 (getD b 4 0) ≡ elements b 4 1 = be-one (getD b 4 0) (bytes 4) in
-      rw (be-number 4 0, level, be-number 2 5) (elements-rest 7 0 (omega arith))
+  pub encode-decode : length b ≡ 79 → leb (getD b 39 0) 1 ≡ true → headBytes (headOf b) ≡ b
+  unfolding headBytes headOf earlierOf
+  encode-decode l t =
+      let behind : markOf (eqb (getD b 39 0) 1) ∷ placeBytes (numberAt 4 b 40) (getD b 44 0) (numberAt 2 b 45) (drop 47 b) ≡ drop 39 b =
+      rw (mark-kept (getD b 39 0) t, place-number 40 (drop 47 b), elements-rest 7 40 (omega arith)) (sym (drop-cons b 39 0 (omega arith))) in
+      let digest : take 32 (drop 7 b) ++ drop 39 b ≡ drop 7 b =
+      ap (λ (x : List ℕ). take 32 (drop 7 b) ++ x) (sym (drop-drop 32 7 b)) ∙ take-append-drop 32 (drop 7 b) in
+      rw (t, behind, place-number 0 (take 32 (drop 7 b)))
+      (append-assoc (elements b 0 7) (take 32 (drop 7 b)) (drop 39 b) ∙ rw digest (elements-rest 7 0 (omega arith)))
+
+-- Bytes with a mark above 1 are a head out of range, and every call refuses it with 22.
+head-mark-out-of-range : (count : ℕ) (b : List ℕ) → leb (getD b 39 0) 1 ≡ false → headFits count (headOf b) ≡ false
+unfolding headFits placeFits headOf inLog
+head-mark-out-of-range count b e = rw e
 
 -- what a server's settings that fit say of the two numbers
 numbers-fit : (servers own : ℕ) (users : List ℕ) → serverSettingsFit servers own users ≡ true → (servers ≤ 16) × (own ≤ 64)
@@ -117,6 +195,16 @@ numbers-fit servers own users t =
     let g = group-fits servers users (a .0) in
     let o = leb-true own servers (and-true (leb 1 own) _ (a .1) .1) in
     (g .sixteen, omega (arith, g .sixteen))
+
+-- a head out of its ranges is refused with 22
+and-no : (b : Bool) → b && false ≡ false
+and-no true = refl
+and-no false = refl
+
+head-unfit : (s : Settings) (h : Head) (store : List ℕ) (used : ℕ) (answer : List ℕ) → headFits (userCount (s .users)) h ≡ false
+    → firstCode (serverSetupChecks s h store used answer) ≡ 22
+unfolding serverSetupChecks firstCode
+head-unfit s h store used answer e = rw (e, and-no (serverSettingsFit (s .servers) (s .own) (s .users)))
 
 -- settings out of their ranges are refused with 22, so a number that does not fit its bytes may be taken for the greatest
 module _ (log users : List ℕ) (h : Head) (store : List ℕ) (used : ℕ) (q answer : List ℕ) where
@@ -160,3 +248,12 @@ module _ {servers own : ℕ} {log users head store : List ℕ} {used : ℕ} {q a
         → ServerYields (serverAnswered servers own log users head store used q answer) r after s a
     unfolding serverAnswered
     left-taken z ea er = rw (← e .result, eq-eqb (out .code) 0 z) (er, (ea, (e .stored, e .answered)))
+
+-- a head whose mark is above 1
+pub head-mark-refused : (servers own : ℕ) (log users head store : List ℕ) (used : ℕ) (q answer : List ℕ) → leb (getD head 39 0) 1 ≡ false
+    → serverAnswered servers own log users head store used q answer .result .code ≡ 22
+unfolding serverAnswered resultOf refusedSetup
+head-mark-refused servers own log users head store used q answer e =
+    let s : Settings = settings servers own log users in
+    let unfit : firstCode (serverSetupChecks s (headOf head) store used answer) ≡ 22 = head-unfit s (headOf head) store used answer (head-mark-out-of-range (userCount users) head e) in
+    ap (λ (x : ServeOutcome). x .out .code) (served-refused s (headOf head) store used q answer 22 (sym unfit) (λ z. omega arith))

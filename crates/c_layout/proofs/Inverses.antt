@@ -1,6 +1,6 @@
 -- What a step lays is what the next step reads: reading is the inverse of laying.
 use mathlib.Core.Path.{_≡_, refl, _∙_, sym, ap}
-use mathlib.Core.Bool.{Bool, true, false, _&&_}
+use mathlib.Core.Bool.{Bool, true, false}
 use mathlib.Core.List.{List, [], _∷_, _++_, append-assoc}
 use Prim.Native.Nat.{ℕ, _+_, _*_, _/_, _%_, _<_}
 use native.Mathlib.Omega.{arith}
@@ -15,12 +15,14 @@ use Rattle.user.specs.declared.call.Kept.{Kept}
 use Rattle.user_update.specs.declared.call.Update.{Update}
 use Rattle.user_write.specs.declared.call.Write.{Write}
 use Rattle.user_read.specs.declared.call.Read.{Read}
+use Rattle.user_give_up.specs.declared.call.GiveUp.{GiveUp}
 use Rattle.user.specs.Asking.{keptFits}
-use Rattle.user_calls.specs.Calls.{updating, writing, reading}
-use Rattle.c_layout.specs.User.{markOf, keptBytes, keptOf, updateBytes, updateOf, writeBytes, writeOf, readBytes, readOf, callBytes, callOf}
+use Rattle.user_calls.specs.Calls.{updating, writing, reading, givingUp}
+use Rattle.c_layout.specs.Mark.{markOf}
+use Rattle.c_layout.specs.User.{progressBytes, keptBytes, progressOf, marksFit, keptOf, updateBytes, updateOf, writeBytes, writeOf, readBytes, readOf, giveUpOf, callBytes, callOf}
 
 -- a mark
-mark-fits : (b : Bool) → leb (markOf b) 1 ≡ true
+pub mark-fits : (b : Bool) → leb (markOf b) 1 ≡ true
 unfolding markOf
 mark-fits true = refl
 mark-fits false = refl
@@ -31,42 +33,59 @@ mark-read true = refl
 mark-read false = refl
 
 -- a number from its four bytes
-four : (x : ℕ) → x < 4294967296 → x / 16777216 % 256 * 16777216 + x / 65536 % 256 * 65536 + x / 256 % 256 * 256 + x % 256 ≡ x
+pub four : (x : ℕ) → x < 4294967296 → x / 16777216 % 256 * 16777216 + x / 65536 % 256 * 65536 + x / 256 % 256 * 256 + x % 256 ≡ x
 four x h = sym (number-four (x / 16777216 % 256 ∷ x / 65536 % 256 ∷ x / 256 % 256 ∷ x % 256 ∷ []) 0) ∙ rw (be-four x) at (number-be 4 x [] h)
 
 -- what is kept
 module _ (k : Kept) (d : length (k .digest) ≡ 32) where
-  kept-tail : drop 36 (keptBytes k) ≡ be 4 (k .number) ++ (markOf (k .opened) ∷ markOf (k .signed) ∷ [])
+  abbrev marked : List ℕ
+  marked = markOf (k .opened) ∷ markOf (k .signed) ∷ progressBytes (k .progress)
+
+  kept-tail : drop 36 (keptBytes k) ≡ be 4 (k .number) ++ marked
   unfolding keptBytes
-  kept-tail = rw (be-four (k .version)) (drop-at (k .digest) (be 4 (k .number) ++ (markOf (k .opened) ∷ markOf (k .signed) ∷ [])) 32 d)
+  kept-tail = rw (be-four (k .version)) (drop-at (k .digest) (be 4 (k .number) ++ marked) 32 d)
 
   kept-digest : take 32 (drop 4 (keptBytes k)) ≡ k .digest
   unfolding keptBytes
-  kept-digest = rw (be-four (k .version)) (take-at (k .digest) (be 4 (k .number) ++ (markOf (k .opened) ∷ markOf (k .signed) ∷ [])) 32 d)
+  kept-digest = rw (be-four (k .version)) (take-at (k .digest) (be 4 (k .number) ++ marked) 32 d)
 
   kept-version : k .version < 4294967296 → numberAt 4 (keptBytes k) 0 ≡ k .version
   unfolding keptBytes
   kept-version h = number-be 4 (k .version) _ h
 
   kept-number : k .number < 4294967296 → numberAt 4 (keptBytes k) 36 ≡ k .number
-  kept-number h =
-      sym (number-drop 4 (keptBytes k) 36 0) ∙ ap (λ (x : List ℕ). numberAt 4 x 0) kept-tail ∙ number-be 4 (k .number) (markOf (k .opened) ∷ markOf (k .signed) ∷ []) h
+  kept-number h = sym (number-drop 4 (keptBytes k) 36 0) ∙ ap (λ (x : List ℕ). numberAt 4 x 0) kept-tail ∙ number-be 4 (k .number) marked h
 
-  kept-opened : getD (keptBytes k) 40 0 ≡ markOf (k .opened)
-  kept-opened = sym (getD-drop 36 (keptBytes k) 4 0) ∙ ap (λ (x : List ℕ). getD x 4 0) kept-tail ∙ rw (be-four (k .number))
+  -- the bytes after the number: marks, and how far an open write got
+  abbrev tail-laid : List ℕ
+  tail-laid = k .number / 16777216 % 256 ∷ k .number / 65536 % 256 ∷ k .number / 256 % 256 ∷ k .number % 256 ∷ marked
 
-  kept-signed : getD (keptBytes k) 41 0 ≡ markOf (k .signed)
-  kept-signed = sym (getD-drop 36 (keptBytes k) 5 0) ∙ ap (λ (x : List ℕ). getD x 5 0) kept-tail ∙ rw (be-four (k .number))
+  kept-behind : (i : ℕ) → getD (keptBytes k) (36 + i) 0 ≡ getD tail-laid i 0
+  kept-behind i =
+      let laid : drop 36 (keptBytes k) ≡ tail-laid = kept-tail ∙ rw (be-four (k .number)) in
+      sym (getD-drop 36 (keptBytes k) i 0) ∙ ap (λ (x : List ℕ). getD x i 0) laid
+
+  kept-marks : marksFit (keptBytes k) ≡ true
+  unfolding marksFit progressBytes
+  kept-marks =
+      let g = k .progress in
+      rw (kept-behind 4, kept-behind 5, kept-behind 7, kept-behind 8, mark-fits (k .opened), mark-fits (k .signed), mark-fits (g .put), mark-fits (g .begun))
+
+  kept-progress : progressOf (keptBytes k) ≡ k .progress
+  unfolding progressOf progressBytes
+  kept-progress =
+      let g = k .progress in
+      rw (kept-behind 6, kept-behind 7, kept-behind 8, kept-behind 9, mark-read (g .put), mark-read (g .begun))
 
   pub kept-decode-encode : k .version < 4294967296 → k .number < 4294967296 → keptOf (keptBytes k) ≡ k
   unfolding keptOf
   kept-decode-encode hv hn =
-      rw (kept-opened, kept-signed, mark-fits (k .opened), mark-fits (k .signed), mark-read (k .opened), mark-read (k .signed), kept-version hv, kept-number hn, kept-digest)
+      rw (kept-marks, kept-behind 4, kept-behind 5, mark-read (k .opened), mark-read (k .signed), kept-version hv, kept-number hn, kept-digest, kept-progress)
 
 -- Bytes with a mark above 1 are out of range.
-pub marks-out-of-range : (b : List ℕ) → leb (getD b 40 0) 1 && leb (getD b 41 0) 1 ≡ false → keptFits (keptOf b) ≡ false
+pub marks-out-of-range : (n : ℕ) (b : List ℕ) → marksFit b ≡ false → keptFits n (keptOf b) ≡ false
 unfolding keptFits keptOf
-marks-out-of-range b e = rw e
+marks-out-of-range n b e = rw e
 
 -- the Update of a call's bytes, and what stands behind it
 module _ (b : List ℕ) (kind : ℕ) (u : Update) (rest : List ℕ) (d : length (u .digest) ≡ 32) (e : b ≡ (kind ∷ updateBytes u) ++ rest) where
@@ -143,3 +162,11 @@ read-decode-encode b r rest e hp hn =
     let answers : getD b 5 0 ≡ r .answers = rw laid in
     let size : numberAt 2 b 6 ≡ r .length = number-two b 6 ∙ rw laid (omega arith) in
     rw (kind, position, answers, size)
+
+-- a give-up
+pub give-up-decode-encode : (b : List ℕ) (g : GiveUp) (rest : List ℕ) → b ≡ callBytes (givingUp g) ++ rest → callOf b ≡ givingUp g
+unfolding callOf callBytes giveUpOf
+give-up-decode-encode b g rest e =
+    let kind : getD b 0 0 ≡ 4 = ap (λ (x : List ℕ). getD x 0 0) e in
+    let waits : getD b 1 0 ≡ markOf (g .waits) = ap (λ (x : List ℕ). getD x 1 0) e in
+    rw (kind, waits, mark-fits (g .waits), mark-read (g .waits))

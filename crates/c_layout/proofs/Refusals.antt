@@ -5,9 +5,9 @@ use Prim.Native.Nat.{ℕ}
 use Rattle.tree.specs.Setup.{Settings}
 use Rattle.user.specs.declared.call.Kept.{Kept}
 use Rattle.user.specs.Outcome.{State, Key, keyOf, Lent, Outcome}
-use Rattle.user_calls.specs.Calls.{Call, idle, updating, writing, reading, Input, startUpdate, startWrite, startRead, answer, stepped}
+use Rattle.user_calls.specs.Calls.{Call, idle, updating, writing, reading, givingUp, Input, startUpdate, startWrite, startRead, startGiveUp, answer, stepped}
 use Rattle.user_calls.proofs.Refusals.{refusedStep, step-refusal, refused-state}
-use Rattle.c_layout.specs.User.{callOf, keptBy, askedOf, UserLent, userLent, stateIn, lentIn, userLeft, userBegun, answeredBy, userAnswered, updateBegun, writeBegun, readBegun}
+use Rattle.c_layout.specs.User.{callOf, keptAfter, keptBy, askedOf, UserLent, userLent, stateIn, lentIn, userLeft, userBegun, answeredBy, userAnswered, updateBegun, writeBegun, readBegun, giveUpBegun}
 use Rattle.c_layout.proofs.States.{kept-left, call-left}
 use Rattle.c_layout.proofs.UserAnswers.{same-lent}
 
@@ -17,6 +17,7 @@ kept-stays idle code k kept n = refl
 kept-stays (updating u) code k kept n = sym (kept-left code k kept n)
 kept-stays (writing w) code k kept n = sym (kept-left code k kept n)
 kept-stays (reading r) code k kept n = refl
+kept-stays (givingUp g) code k kept n = sym (kept-left code k kept n)
 
 module _ (s : Settings) (m : UserLent) (key : Key) where
   left-alone : (kept : List ℕ) (o : Outcome Call) → (o .step .code ≡ 0 → ⊥) → kept ≡ m .kept → o .state ≡ stateIn m → o .lent ≡ lentIn m key
@@ -62,3 +63,14 @@ pub write-start-leaves-all-bytes : (s : Settings) (tree entry randomizer kept pa
     → writeBegun s tree entry randomizer kept path call held request .lent ≡ userLent kept path [] call [] held request []
 write-start-leaves-all-bytes s tree entry randomizer kept path call held request =
     start-leaves s (userLent kept path [] call [] held request []) (keyOf [] [] tree) (λ l. startWrite l entry randomizer) (λ _. refl)
+
+pub give-up-start-leaves-all-bytes : (s : Settings) (kept path call request : List ℕ) → (giveUpBegun s kept path call request .result .code ≡ 0 → ⊥)
+    → giveUpBegun s kept path call request .lent ≡ userLent kept path [] call [] [] request []
+unfolding giveUpBegun userLeft askedOf
+give-up-start-leaves-all-bytes s kept path call request n =
+    let m : UserLent = userLent kept path [] call [] [] request [] in
+    let l : Lent = lentIn m (keyOf [] [] []) in
+    let o : Outcome Call = stepped s (stateIn m) l (callOf call) (startGiveUp l) in
+    let e = step-refusal s (stateIn m) l (callOf call) (startGiveUp l) n in
+    left-alone s m (keyOf [] [] []) (keptAfter (o .step .code) (o .state .kept) kept) o n (sym (kept-left (o .step .code) (o .state .kept) kept n))
+    (ap (λ (x : Outcome Call). x .state) e) (ap (λ (x : Outcome Call). x .lent) e)

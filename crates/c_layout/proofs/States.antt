@@ -14,11 +14,14 @@ use Rattle.tree.specs.Cover.{piece}
 use Rattle.tree.proofs.Messages.{number-elements, three-parts}
 use Rattle.tree.proofs.Pieces.{piece-whole}
 use Rattle.user.specs.declared.call.Kept.{Kept}
+use Rattle.user.specs.declared.call.Progress.{Progress}
 use Rattle.user_update.specs.declared.call.Update.{Update}
 use Rattle.user_write.specs.declared.call.Write.{Write}
 use Rattle.user_read.specs.declared.call.Read.{Read}
-use Rattle.user_calls.specs.Calls.{updating, writing, reading}
-use Rattle.c_layout.specs.User.{markOf, keptBytes, keptOf, updateBytes, updateOf, writeBytes, writeOf, readBytes, readOf, callBytes, keptAfter, callAfter}
+use Rattle.user_give_up.specs.declared.call.GiveUp.{GiveUp}
+use Rattle.user_calls.specs.Calls.{updating, writing, reading, givingUp}
+use Rattle.c_layout.specs.Mark.{markOf}
+use Rattle.c_layout.specs.User.{progressBytes, keptBytes, progressOf, marksFit, keptOf, updateBytes, updateOf, writeBytes, writeOf, readBytes, readOf, giveUpOf, callBytes, keptAfter, callAfter}
 
 -- a mark
 pub mark-yes : (b : Bool) → b ≡ true → 1 ≡ markOf b
@@ -30,32 +33,46 @@ unfolding markOf
 mark-no b e = rw e
 
 -- 32 bytes from place i on
-part-read : (b t d : List ℕ) (i : ℕ) → i + 32 ≤ length b → t ≡ drop i b → d ≡ piece t 0 → d ≡ take 32 (drop i b)
+pub part-read : (b t d : List ℕ) (i : ℕ) → i + 32 ≤ length b → t ≡ drop i b → d ≡ piece t 0 → d ≡ take 32 (drop i b)
 part-read b t d i h et ed =
     let ld = length-drop i b in
     ed ∙ ap (λ (x : List ℕ). piece x 0) et ∙ piece-whole (drop i b) 0 (omega arith)
 
 -- what is kept
-pub kept-read : (b t : List ℕ) (p v n : ℕ) (d : List ℕ) (f g h x y : Bool) → length b ≡ 42 → p ≡ numberAt 4 b 0 → t ≡ drop 4 b → d ≡ piece t 0
-    → n ≡ numberAt 4 b 36 → f ≡ leb (getD b 40 0) 1 → g ≡ leb (getD b 41 0) 1 → h ≡ f && g → v ≡ cond h p 4294967295
-    → x ≡ eqb (getD b 40 0) 1 → y ≡ eqb (getD b 41 0) 1
-    → _≡_ {A = Kept} (record { version = v; digest = d; number = n; opened = x; signed = y }) (keptOf b)
-unfolding keptOf
-kept-read b t p v n d f g h x y l ep et ed en ef eg eh ev ex ey =
-    let e : d ≡ take 32 (drop 4 b) = part-read b t d 4 (omega arith) et ed in
-    rw (ev, eh, ef, eg, ep, e, en, ex, ey)
+pub progress-read : (b : List ℕ) (x y : Bool) → x ≡ eqb (getD b 43 0) 1 → y ≡ eqb (getD b 44 0) 1
+    → _≡_ {A = Progress} (record { levels = getD b 42 0; put = x; begun = y; done = getD b 45 0 }) (progressOf b)
+unfolding progressOf
+progress-read b x y ex ey = rw (ex, ey)
 
-pub kept-laid : (k : Kept) (v n s₁ s₂ : List ℕ) (o s : ℕ) → length (k .digest) ≡ 32 → v ≡ be 4 (k .version) → n ≡ be 4 (k .number)
-    → o ≡ markOf (k .opened) → s ≡ markOf (k .signed) → s₁ ≡ written (replicate 42 0) 0 (v ++ k .digest)
-    → s₂ ≡ written s₁ 36 (elements n 0 4 ++ (o ∷ s ∷ [])) → s₂ ≡ keptBytes k
+pub marks-read : (b : List ℕ) (o s p g x y z : Bool) → o ≡ leb (getD b 40 0) 1 → s ≡ leb (getD b 41 0) 1 → p ≡ leb (getD b 43 0) 1
+    → g ≡ leb (getD b 44 0) 1 → x ≡ p && g → y ≡ s && x → z ≡ o && y → z ≡ marksFit b
+unfolding marksFit
+marks-read b o s p g x y z eo es ep eg ex ey ez = rw (ez, ey, ex, eo, es, ep, eg)
+
+pub kept-read : (b t d : List ℕ) (p v n : ℕ) (f x y : Bool) (g : Progress) → length b ≡ 46 → f ≡ marksFit b → p ≡ numberAt 4 b 0
+    → v ≡ cond f p 4294967295 → t ≡ drop 4 b → d ≡ piece t 0 → n ≡ numberAt 4 b 36 → x ≡ eqb (getD b 40 0) 1 → y ≡ eqb (getD b 41 0) 1
+    → g ≡ progressOf b
+    → _≡_ {A = Kept} (record { version = v; digest = d; number = n; opened = x; signed = y; progress = g }) (keptOf b)
+unfolding keptOf
+kept-read b t d p v n f x y g l ef ep ev et ed en ex ey eg =
+    let e : d ≡ take 32 (drop 4 b) = part-read b t d 4 (omega arith) et ed in
+    rw (ev, ef, ep, e, en, ex, ey, eg)
+
+pub progress-laid : (g : Progress) (p b : ℕ) → p ≡ markOf (g .put) → b ≡ markOf (g .begun) → g .levels ∷ p ∷ b ∷ g .done ∷ [] ≡ progressBytes g
+unfolding progressBytes
+progress-laid g p b ep eb = rw (ep, eb)
+
+pub kept-laid : (k : Kept) (v n g s₁ s₂ : List ℕ) (o s : ℕ) → length (k .digest) ≡ 32 → length g ≡ 4 → v ≡ be 4 (k .version) → n ≡ be 4 (k .number)
+    → o ≡ markOf (k .opened) → s ≡ markOf (k .signed) → g ≡ progressBytes (k .progress) → s₁ ≡ written (replicate 46 0) 0 (v ++ k .digest)
+    → s₂ ≡ written s₁ 36 ((elements n 0 4 ++ (o ∷ s ∷ [])) ++ g) → s₂ ≡ keptBytes k
 unfolding keptBytes
-kept-laid k v n s₁ s₂ o s ld ev en eo es e₁ e₂ =
+kept-laid k v n g s₁ s₂ o s ld lg ev en eo es eg e₁ e₂ =
     let lv : length v ≡ 4 = ap length ev ∙ be-length 4 (k .version) in
-    let whole = filled-twice (replicate 42 0) (v ++ k .digest) (elements n 0 4 ++ (o ∷ s ∷ [])) s₁ s₂ 36
-    (simp length-append (omega arith)) (omega (arith, length-replicate {A = ℕ} 42 0)) e₁ e₂ in
-    let parts : (v ++ k .digest) ++ (elements n 0 4 ++ (o ∷ s ∷ [])) ≡ (be 4 (k .version) ++ k .digest) ++ (be 4 (k .number) ++ (o ∷ s ∷ [])) =
-    ap₂ (λ (x y : List ℕ). (x ++ k .digest) ++ (y ++ (o ∷ s ∷ []))) ev (number-elements 4 (k .number) n en) in
-    whole ∙ parts ∙ append-assoc (be 4 (k .version)) (k .digest) (be 4 (k .number) ++ (o ∷ s ∷ [])) ∙ rw (eo, es)
+    let whole = filled-twice (replicate 46 0) (v ++ k .digest) (elements n 0 4 ++ (o ∷ s ∷ g)) s₁ s₂ 36
+    (simp length-append (omega arith)) (omega (arith, length-replicate {A = ℕ} 46 0)) e₁ e₂ in
+    let parts : (v ++ k .digest) ++ (elements n 0 4 ++ (o ∷ s ∷ g)) ≡ (be 4 (k .version) ++ k .digest) ++ (be 4 (k .number) ++ (o ∷ s ∷ g)) =
+    ap₂ (λ (x y : List ℕ). (x ++ k .digest) ++ (y ++ (o ∷ s ∷ g))) ev (number-elements 4 (k .number) n en) in
+    whole ∙ parts ∙ append-assoc (be 4 (k .version)) (k .digest) (be 4 (k .number) ++ (o ∷ s ∷ g)) ∙ rw (eo, es, eg)
 
 pub kept-written : (code : ℕ) (k : Kept) (kept after : List ℕ) → code ≡ 0 → after ≡ keptBytes k → after ≡ keptAfter code k kept
 unfolding keptAfter
@@ -145,3 +162,13 @@ pub read-left : (code : ℕ) (r : Read) (p n call left : List ℕ) → p ≡ be 
 unfolding callBytes readBytes
 read-left code r p n call left ep en e =
     e ∙ ap₂ (λ (x y : List ℕ). callAfter code (3 ∷ (x ++ (r .answers ∷ y))) call) (number-elements 4 (r .position) p ep) (number-elements 2 (r .length) n en)
+
+-- a give-up
+pub give-up-read : (b : List ℕ) (x : Bool) → x ≡ eqb (getD b 1 0) 1 → _≡_ {A = GiveUp} (record { waits = x }) (giveUpOf b)
+unfolding giveUpOf
+give-up-read b x e = rw e
+
+pub give-up-left : (code : ℕ) (g : GiveUp) (mark : ℕ) (call left : List ℕ) → mark ≡ markOf (g .waits) → left ≡ callAfter code (4 ∷ mark ∷ []) call
+    → left ≡ callAfter code (callBytes (givingUp g)) call
+unfolding callBytes
+give-up-left code g mark call left em e = e ∙ ap (λ (x : ℕ). callAfter code (4 ∷ x ∷ []) call) em

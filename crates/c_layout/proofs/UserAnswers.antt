@@ -5,12 +5,12 @@ use mathlib.Core.List.{List, [], _∷_, _++_}
 use Prim.Native.Nat.{ℕ}
 use lib.Dec.{eqb, leb}
 use lib.ListN.{length, getD}
-use borrow.Author.Tests.{eq-eqb, ne-eqb}
+use borrow.Author.Tests.{eq-eqb, ne-eqb, eqb-true}
 use Rattle.sha256.specs.Bytes.{written}
 use Rattle.tree.specs.declared.setup.Config.{Config}
 use Rattle.tree.specs.Setup.{Settings, settings, on, firstCode}
 use Rattle.tree.specs.Inner.{settingsOf}
-use Rattle.tree.proofs.Cases.{by-bool}
+use Rattle.tree.proofs.Cases.{by-bool, and-true}
 use Rattle.tree.proofs.CheckLists.{code-then}
 use Rattle.user.specs.declared.call.Kept.{Kept}
 use Rattle.user.specs.declared.call.Step.{Step}
@@ -20,6 +20,8 @@ use Rattle.user_write.specs.declared.call.Write.{Write}
 use Rattle.user_write.specs.declared.call.WriteStep.{WriteStep}
 use Rattle.user_read.specs.declared.call.Read.{Read}
 use Rattle.user_read.specs.declared.call.ReadStep.{ReadStep}
+use Rattle.user_give_up.specs.declared.call.GiveUp.{GiveUp}
+use Rattle.user_give_up.specs.declared.call.GiveUpStep.{GiveUpStep}
 use Rattle.user.specs.Asking.{userSetupChecks, requestRoom, refused}
 use Rattle.user.specs.Outcome.{State, stateOf, withKept, Key, Lent, lentOf, withHashes, withRequest, Outcome, nothing}
 use Rattle.user_update.specs.Update.{updateTaken}
@@ -28,11 +30,14 @@ use Rattle.user_write.specs.Write.{writeTaken}
 use Rattle.user_write.specs.Inner.{WriteYields}
 use Rattle.user_read.specs.Read.{readTaken}
 use Rattle.user_read.specs.Inner.{ReadYields}
-use Rattle.user_calls.specs.Calls.{Call, idle, updating, writing, reading, answer, strayCode, taken, stepped}
+use Rattle.user_give_up.specs.GiveUp.{giveUpTaken}
+use Rattle.user_give_up.specs.Inner.{GiveUpYields}
+use Rattle.user_calls.specs.Calls.{Call, idle, updating, writing, reading, givingUp, answer, strayCode, taken, stepped}
 use Rattle.user.proofs.Passed.{setup-coded}
 use Rattle.user_read.proofs.ReadAnswers.{read-state}
+use Rattle.user_give_up.proofs.GiveUpAnswers.{give-up-keeps}
 use Rattle.user_calls.proofs.Unchanged.{update-keeps, write-keeps}
-use Rattle.c_layout.specs.User.{keptOf, updateOf, writeOf, readOf, callBytes, callOf, callAfter, keptAfter, keptBy, askedOf, UserLent, userLent, stateIn, lentIn, userLeft, answeredBy, userAnswered, UserYields}
+use Rattle.c_layout.specs.User.{keptOf, updateOf, writeOf, readOf, giveUpOf, callBytes, callOf, callAfter, keptAfter, keptBy, askedOf, UserLent, userLent, stateIn, lentIn, userLeft, answeredBy, userAnswered, UserYields}
 use Rattle.c_layout.specs.Inner.{configOf}
 use Rattle.c_layout.specs.declared.using.Asked.{Asked}
 use Rattle.c_layout.proofs.Narrowed.{step-passed-on}
@@ -122,6 +127,22 @@ module _ (s : Settings) (a kept path signature call hashes held request entry : 
               (f .1 .0) (f .1 .1 .0) (f .1 .1 .1 .0) (f .1 .1 .1 .1),
         )
 
+  pub give-up-answered : (call′ request′ kept′ : List ℕ) (g : GiveUp) (left : GiveUpStep) → g ≡ giveUpOf call
+      → ((signature : List ℕ) (m : Lent) → GiveUpYields (giveUpTaken s (stateOf k path signature) (withRequest m request) g a) left request′)
+      → kept′ ≡ keptAfter (left .step .code) (left .kept) kept → call′ ≡ callAfter (left .step .code) (callBytes (givingUp (left .call))) call
+      → r ≡ askedOf (left .step) nothing
+      → UserYields (answeredBy s before key (givingUp (giveUpOf call)) a) r (userLent kept′ path signature call′ hashes held request′ entry)
+  unfolding answeredBy userLeft stepped taken keptBy
+  give-up-answered call′ request′ kept′ g left eg e ep ec er =
+      let o : Outcome GiveUp = giveUpTaken s (stateIn before) (lentIn before key) (giveUpOf call) a in
+      let same = give-up-keeps s (stateIn before) (lentIn before key) (giveUpOf call) a in
+      let f : GiveUpYields o left request′ = rw (ek, eg) at (e signature (lentIn before key)) in (
+        er ∙ ap (λ (x : GiveUpStep). askedOf (x .step) nothing) (f .0) ∙ ap (askedOf (o .step)) (sym (same .found)),
+        same-lent (ep ∙ ap (λ (x : GiveUpStep). keptAfter (x .step .code) (x .kept) kept) (f .0)) (sym (same .path)) (sym (same .signature))
+            (ec ∙ ap (λ (x : GiveUpStep). callAfter (x .step .code) (callBytes (givingUp (x .call))) call) (f .0))
+            (sym (same .hashes)) (sym (same .held)) (f .1) (sym (same .entry)),
+      )
+
   pub stray-answered : (room z : Bool) (setup code : ℕ) (step : Step) → room ≡ leb 2566 (length request) → setup ≡ firstCode (userSetupChecks s k room)
       → z ≡ eqb setup 0 → code ≡ cond z 10 setup → step ≡ refused code a → r ≡ askedOf step nothing
       → UserYields (answeredBy s before key idle a) r before
@@ -132,28 +153,54 @@ module _ (s : Settings) (a kept path signature call hashes held request entry : 
 
 -- the call that the bytes stand for, by their kind
 module _ (b : List ℕ) (kind : ℕ) (ek : kind ≡ getD b 0 0) where
+  -- a Write is told by its mark at 46 too
+  module _ (mark : ℕ) (fits two writes : Bool) (em : mark ≡ getD b 46 0) (ef : fits ≡ leb mark 1) (et : two ≡ eqb kind 2) (ew : writes ≡ two && fits) where
+    written-kind : writes ≡ eqb (getD b 0 0) 2 && leb (getD b 46 0) 1
+    written-kind = ew ∙ rw (et, ef, ek, em)
+
+    pub is-write : writes ≡ true → callOf b ≡ writing (writeOf b)
+    unfolding callOf
+    is-write t =
+        let writ : eqb (getD b 0 0) 2 && leb (getD b 46 0) 1 ≡ true = sym written-kind ∙ t in
+        let kind-two : getD b 0 0 ≡ 2 = eqb-true (getD b 0 0) 2 (and-true (eqb (getD b 0 0) 2) (leb (getD b 46 0) 1) writ .0) in
+        rw (writ, kind-two)
+
+    pub no-write : writes ≡ false → eqb (getD b 0 0) 2 && leb (getD b 46 0) 1 ≡ false
+    no-write f = sym written-kind ∙ f
+
   pub is-update : kind ≡ 1 → callOf b ≡ updating (updateOf b)
   unfolding callOf
   is-update z = rw (eq-eqb (getD b 0 0) 1 (sym ek ∙ z))
 
-  module _ (one : kind ≡ 1 → ⊥) (mark : ℕ) (fits two writes : Bool) (em : mark ≡ getD b 46 0) (ef : fits ≡ leb mark 1) (et : two ≡ eqb kind 2) (ew : writes ≡ two && fits) where
-    marked : writes ≡ eqb (getD b 0 0) 2 && leb (getD b 46 0) 1
-    marked = ew ∙ rw (et, ef, ek, em)
-
+  module _ (one : kind ≡ 1 → ⊥) (other : eqb (getD b 0 0) 2 && leb (getD b 46 0) 1 ≡ false) where
     not-update : eqb (getD b 0 0) 1 ≡ false
     not-update = ne-eqb (getD b 0 0) 1 (λ z. one (ek ∙ z))
 
-    pub is-write : writes ≡ true → callOf b ≡ writing (writeOf b)
+    pub is-read : kind ≡ 3 → callOf b ≡ reading (readOf b)
     unfolding callOf
-    is-write t = rw (not-update, sym marked ∙ t)
+    is-read z = rw (not-update, other, eq-eqb (getD b 0 0) 3 (sym ek ∙ z))
 
-    pub is-read : writes ≡ false → kind ≡ 3 → callOf b ≡ reading (readOf b)
-    unfolding callOf
-    is-read f z = rw (not-update, sym marked ∙ f, eq-eqb (getD b 0 0) 3 (sym ek ∙ z))
+    -- and a give-up by its own, at 1
+    module _ (three : kind ≡ 3 → ⊥) (mark : ℕ) (fits four gives : Bool) (em : mark ≡ getD b 1 0) (ef : fits ≡ leb mark 1) (et : four ≡ eqb kind 4)
+        (ew : gives ≡ four && fits) where
+      not-read : eqb (getD b 0 0) 3 ≡ false
+      not-read = ne-eqb (getD b 0 0) 3 (λ z. three (ek ∙ z))
 
-    pub is-none : writes ≡ false → (kind ≡ 3 → ⊥) → callOf b ≡ idle
-    unfolding callOf
-    is-none f n = rw (not-update, sym marked ∙ f, ne-eqb (getD b 0 0) 3 (λ y. n (ek ∙ y)))
+      marked : gives ≡ eqb (getD b 0 0) 4 && leb (getD b 1 0) 1
+      marked = ew ∙ rw (et, ef, ek, em)
+
+      pub is-give-up : gives ≡ true → callOf b ≡ givingUp (giveUpOf b)
+      unfolding callOf
+      is-give-up t = rw (not-update, other, not-read, sym marked ∙ t)
+
+      pub is-none : gives ≡ false → callOf b ≡ idle
+      unfolding callOf
+      is-none f = rw (not-update, other, not-read, sym marked ∙ f)
+
+-- what the call leaves that the bytes stand for
+pub taken-as : (s : Settings) (m : UserLent) (key : Key) (a : List ℕ) (c : Call) (r : Asked) (after : UserLent) → callOf (m .call) ≡ c
+    → UserYields (answeredBy s m key c a) r after → UserYields (answeredBy s m key (callOf (m .call)) a) r after
+taken-as s m key a c r after ec e = rw ec e
 
 -- what that call leaves with the numbers that are passed on, the user's call leaves with those that are given
 pub taken-by : (servers own : ℕ) (log users : List ℕ) (config : Config) (m : UserLent) (key : Key) (a : List ℕ) (c : Call) (r : Asked) (after : UserLent)

@@ -10,6 +10,7 @@ use Rattle.user.specs.declared.call.Settled.{Settled}
 use Rattle.user_update.specs.declared.call.UpdateStep.{UpdateStep}
 use Rattle.user_write.specs.declared.call.WriteStep.{WriteStep}
 use Rattle.user_read.specs.declared.call.ReadStep.{ReadStep}
+use Rattle.user_give_up.specs.declared.call.GiveUpStep.{GiveUpStep}
 use Rattle.user.specs.Outcome.{State, stateOf, withKept, Key, keyOf, Lent, lentOf, withRequest, withEntry, Outcome, nothing}
 use Rattle.user.specs.Settled.{settledGiven}
 use Rattle.user_update.specs.declared.call.Update.{Update}
@@ -21,9 +22,14 @@ use Rattle.user_write.specs.Inner.{WriteStarts}
 use Rattle.user_read.specs.declared.call.Read.{Read}
 use Rattle.user_read.specs.Read.{readStarted}
 use Rattle.user_read.specs.Inner.{ReadYields}
-use Rattle.user_calls.specs.Calls.{Call, updating, writing, reading, Input, startUpdate, startWrite, startRead, stepped}
+use Rattle.user_give_up.specs.declared.call.GiveUp.{GiveUp}
+use Rattle.user_give_up.specs.GiveUp.{giveUpStarted}
+use Rattle.user_give_up.specs.Inner.{GiveUpYields}
+use Rattle.user_give_up.proofs.GiveUpAnswers.{give-up-start-keeps}
+use Rattle.user_calls.specs.Calls.{Call, updating, writing, reading, givingUp, Input, startUpdate, startWrite, startRead, startGiveUp, asCall, stepped}
 use Rattle.user_calls.proofs.Unchanged.{update-start-finds, write-start-finds}
-use Rattle.c_layout.specs.User.{markOf, keptOf, callBytes, callOf, callAfter, askedOf, UserLent, userLent, stateIn, lentIn, userLeft, userBegun, updateBegun, readBegun, writeBegun, Begins, WriteBegins, settledAnswer}
+use Rattle.c_layout.specs.Mark.{markOf}
+use Rattle.c_layout.specs.User.{keptOf, callBytes, callOf, callAfter, keptAfter, askedOf, UserLent, userLent, stateIn, lentIn, userLeft, userBegun, updateBegun, readBegun, writeBegun, giveUpBegun, Begins, WriteBegins, GiveUpBegins, settledAnswer}
 use Rattle.c_layout.specs.Inner.{configOf}
 use Rattle.c_layout.specs.declared.using.Asked.{Asked}
 use Rattle.c_layout.specs.declared.using.SettledAnswer.{SettledAnswer}
@@ -42,6 +48,24 @@ module _ (servers own : ℕ) (log users : List ℕ) (config : Config) (eg : conf
     begins call′ held′ request′ r er ec eh eq =
         rw (← step-passed-on servers own log users config eg (stateIn m) (lentIn m key) (callOf (m .call)) (start (lentIn m key)))
         ((er, (ec, eq)), eh)
+
+  -- a start that changes what is kept
+  module _ (kept path call request : List ℕ) where
+    abbrev lent-bytes : UserLent
+    lent-bytes = userLent kept path [] call [] [] request []
+
+    abbrev lent-memory : Lent
+    lent-memory = lentIn lent-bytes (keyOf [] [] [])
+
+    gives-up : (kept′ call′ request′ : List ℕ) (r : Asked) (o : Outcome Call)
+        → o ≡ stepped (settingsOf config users) (stateIn lent-bytes) lent-memory (callOf call) (startGiveUp lent-memory)
+        → r ≡ askedOf (o .step) (o .found) → call′ ≡ callAfter (o .step .code) (callBytes (o .call)) call → request′ ≡ o .lent .request
+        → kept′ ≡ keptAfter (o .step .code) (o .state .kept) kept
+        → GiveUpBegins (giveUpBegun (settings servers own log users) kept path call request) r kept′ call′ request′
+    unfolding giveUpBegun userLeft
+    gives-up kept′ call′ request′ r o eo er ec eq ek =
+        let f = eo ∙ step-passed-on servers own log users config eg (stateIn lent-bytes) lent-memory (callOf call) (startGiveUp lent-memory) in
+        rw (← f) ((er, (ec, eq)), ek)
 
   module _ (kept : List ℕ) (k : Kept) (ek : k ≡ keptOf kept) where
     pub settled-answered : (p mark : ℕ) (given : Settled) → given ≡ settledGiven (settingsOf config users) k p → mark ≡ markOf (given .settled)
@@ -97,3 +121,19 @@ module _ (servers own : ℕ) (log users : List ℕ) (config : Config) (eg : conf
           begins m key (λ l. startWrite l entry randomizer) call′ held′ request′ r
           (er ∙ ap (λ (x : WriteStep). askedOf (x .step) nothing) (f .0 .0) ∙ ap (askedOf (o .step)) (sym (write-start-finds _ _ _ _ _)))
           (ec ∙ ap (λ (x : WriteStep). callAfter (x .step .code) (callBytes (writing (x .call))) call) (f .0 .0)) (f .1) (f .0 .1 .1 .1 .1)
+
+      pub give-up-begun : (path kept′ : List ℕ) (left : GiveUpStep)
+          → ((signature : List ℕ) (m : Lent) → GiveUpYields (giveUpStarted (settingsOf config users) (stateOf k path signature) (withRequest m request)) left request′)
+          → kept′ ≡ keptAfter (left .step .code) (left .kept) kept → call′ ≡ callAfter (left .step .code) (callBytes (givingUp (left .call))) call
+          → r ≡ askedOf (left .step) nothing
+          → GiveUpBegins (giveUpBegun (settings servers own log users) kept path call request) r kept′ call′ request′
+      unfolding stepped
+      give-up-begun path kept′ left e ep ec er =
+          let l : Lent = lent-memory kept path call request in
+          let o : Outcome GiveUp = giveUpStarted (settingsOf config users) (stateIn (lent-bytes kept path call request)) l in
+          let f : GiveUpYields o left request′ = rw ek at (e [] l) in
+          gives-up kept path call request kept′ call′ request′ r (asCall givingUp o) refl
+          (er ∙ ap (λ (x : GiveUpStep). askedOf (x .step) nothing) (f .0)
+          ∙ ap (askedOf (o .step)) (sym (give-up-start-keeps (settingsOf config users) (stateIn (lent-bytes kept path call request)) l .found)))
+          (ec ∙ ap (λ (x : GiveUpStep). callAfter (x .step .code) (callBytes (givingUp (x .call))) call) (f .0)) (f .1)
+          (ep ∙ ap (λ (x : GiveUpStep). keptAfter (x .step .code) (x .kept) kept) (f .0))

@@ -1,15 +1,18 @@
-// The server's call, its head in 39 lent bytes.
+// The server's call, its head in 79 lent bytes.
 ghost use mathlib.Core.Path.{_≡_};
 ghost use Prim.Native.Nat.{_≤_};
 ghost use Rattle.tree.specs.Inner.{settingsOf};
 ghost use Rattle.server.specs.Serve.{served};
 ghost use Rattle.server.specs.Inner.{Serves};
-ghost use Rattle.c_layout.specs.Server.{headBytes, headOf, resultOf, serverAnswered, ServerYields};
+ghost use Rattle.c_layout.specs.Server.{placeBytes, headBytes, earlierOf, headOf, resultOf, serverAnswered, ServerYields};
+use super::marks;
 use super::numbers;
+use server::Earlier;
 use server::Head;
 use server::Out;
 use server::lent;
 use sha256::bytes;
+use tree::bools;
 use tree::digest;
 use tree::setup::Config;
 
@@ -21,11 +24,28 @@ pub struct Served {
     pub used: u64,
 }
 
-// The head that 39 bytes stand for.
-fn head_of(b: [u8; 39]) -> Head
+// The head before it, as the last 40 bytes of a head stand for it.
+fn earlier_of(b: [u8; 79]) -> Earlier
+    ensures { λ r. ⌜ r ≡ earlierOf b ⌝ }
+{
+    let position = bytes::u32_at(&b, 40);
+    let author = bytes::u16_at(&b, 45);
+    let digest = digest::piece(bytes::from(&b, 47), 0);
+    Earlier {
+        known: bools::equal(b[39] as usize, 1),
+        position,
+        level: b[44],
+        author,
+        digest,
+    }
+}
+
+// The head that 79 bytes stand for.
+fn head_of(b: [u8; 79]) -> Head
     ensures { λ r. ⌜ r ≡ headOf b ⌝ }
 {
-    let position = bytes::u32_at(&b, 0);
+    let fits = bools::at_most(b[39] as usize, 1);
+    let position = marks::number_beside(fits, bytes::u32_at(&b, 0));
     let author = bytes::u16_at(&b, 5);
     let digest = digest::piece(bytes::from(&b, 7), 0);
     Head {
@@ -33,19 +53,35 @@ fn head_of(b: [u8; 39]) -> Head
         level: b[4],
         author,
         digest,
+        earlier: earlier_of(b),
     }
 }
 
-// A head as 39 bytes.
-fn head_bytes(h: Head) -> [u8; 39]
-    ensures { λ r. ⌜ r ≡ headBytes h ⌝ }
+// A position, level, author and digest as 39 bytes.
+fn place_bytes(position: u32, level: u8, author: u16, digest: [u8; 32]) -> [u8; 39]
+    ensures { λ r. ⌜ r ≡ placeBytes position level author digest ⌝ }
 {
-    let p = bytes::be4(h.position);
-    let a = bytes::be2(h.author);
-    let first = [p[0], p[1], p[2], p[3], h.level, a[0], a[1]];
-    let digest = h.digest;
+    let p = bytes::be4(position);
+    let a = bytes::be2(author);
+    let first = [p[0], p[1], p[2], p[3], level, a[0], a[1]];
     let mut out = [0u8; 39];
     bytes::put2(&mut out, 0, &first, &digest);
+    out
+}
+
+// A head as 79 bytes.
+fn head_bytes(h: Head) -> [u8; 79]
+    ensures { λ r. ⌜ r ≡ headBytes h ⌝ }
+{
+    let e = h.earlier;
+    let digest = h.digest;
+    let before = e.digest;
+    let known = [marks::mark(e.known)];
+    let first = place_bytes(h.position, h.level, h.author, digest);
+    let rest = place_bytes(e.position, e.level, e.author, before);
+    let mut out = [0u8; 79];
+    bytes::put2(&mut out, 0, &first, &known);
+    bytes::put(&mut out, 40, &rest);
     out
 }
 
@@ -91,7 +127,7 @@ pub fn serve(
     own: u32,
     log: &[u8; 16],
     users: &[u8],
-    head: &mut [u8; 39],
+    head: &mut [u8; 79],
     store: &mut [u8],
     used: u64,
     request: &[u8],

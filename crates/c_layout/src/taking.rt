@@ -1,11 +1,15 @@
 // An answer taken in by the user's call that 82 lent bytes stand for.
+ghost use mathlib.Core.Path.{_≡_};
+ghost use mathlib.Core.Bool.{false, _&&_};
 ghost use mathlib.Core.List.{List};
 ghost use Prim.Native.Nat.{ℕ};
+ghost use lib.Dec.{eqb, leb};
+ghost use lib.ListN.{getD};
 ghost use Rattle.tree.specs.Setup.{settings};
 ghost use Rattle.tree.specs.Inner.{settingsOf};
 ghost use Rattle.user.specs.Outcome.{Key, keyOf};
-ghost use Rattle.user_calls.specs.Calls.{idle, updating, writing, reading};
-ghost use Rattle.c_layout.specs.User.{updateOf, writeOf, readOf, userLent, UserYields, answeredBy, userAnswered};
+ghost use Rattle.user_calls.specs.Calls.{idle, updating, writing, reading, givingUp};
+ghost use Rattle.c_layout.specs.User.{updateOf, writeOf, readOf, giveUpOf, callOf, userLent, UserYields, answeredBy, userAnswered};
 use super::numbers;
 use super::user_state;
 use super::using;
@@ -20,7 +24,7 @@ fn update_answer(
     config: Config,
     users: &[u8],
     answer: &[u8],
-    kept: &mut [u8; 42],
+    kept: &mut [u8; 46],
     call: &mut [u8; 82],
     hashes: &mut [u8; 1248],
     request: &mut [u8],
@@ -47,7 +51,7 @@ fn write_answer(
     seed: [u8; 32],
     tree: &[u8],
     answer: &[u8],
-    kept: &mut [u8; 42],
+    kept: &mut [u8; 46],
     path: &mut [u8; 672],
     signature: &mut [u8; 2508],
     call: &mut [u8; 82],
@@ -89,7 +93,7 @@ fn read_answer(
     config: Config,
     users: &[u8],
     answer: &[u8],
-    kept: &[u8; 42],
+    kept: &[u8; 46],
     call: &mut [u8; 82],
     hashes: &mut [u8; 1248],
     held: &mut [u8; 1026],
@@ -111,12 +115,36 @@ fn read_answer(
     using::result(step, left.found)
 }
 
+// An answer taken in by a give-up.
+fn give_up_answer(
+    config: Config,
+    users: &[u8],
+    answer: &[u8],
+    kept: &mut [u8; 46],
+    path: &[u8; 672],
+    call: &mut [u8; 82],
+    request: &mut [u8],
+) -> Asked
+    ensures { λ r. ⌜ ((signature hashes held entry : List ℕ) (key : Key)
+        → UserYields (answeredBy (settingsOf config (now (users .entry))) (userLent (now (kept .entry)) (now (path .entry)) signature
+        (now (call .entry)) hashes held (now (request .entry)) entry) key (givingUp (giveUpOf (now (call .entry)))) (now (answer .entry)))
+        r (userLent (now (kept .exit)) (now (path .entry)) signature (now (call .exit)) hashes held (now (request .exit)) entry)) ⌝ }
+{
+    let g = user_state::give_up_of(*call);
+    let k = user_state::kept_of(*kept);
+    let left = g.take(config, users, k, answer, path, request);
+    let step = left.step;
+    user_state::lay_kept(step.code, left.kept, kept);
+    user_state::lay_give_up(step.code, left.call, call);
+    using::plain_result(step)
+}
+
 // An answer to no call's request.
 fn stray_answer(
     config: Config,
     users: &[u8],
     answer: &[u8],
-    kept: &[u8; 42],
+    kept: &[u8; 46],
     request: &[u8],
 ) -> Asked
     ensures { λ r. ⌜ ((path signature call hashes held entry : List ℕ) (key : Key)
@@ -131,6 +159,51 @@ fn stray_answer(
     using::plain_result(ask::refused(code, answer))
 }
 
+// An answer taken in by any call but a Write, or by none.
+fn other_answer(
+    config: Config,
+    users: &[u8],
+    answer: &[u8],
+    kept: &mut [u8; 46],
+    path: &[u8; 672],
+    call: &mut [u8; 82],
+    hashes: &mut [u8; 1248],
+    held: &mut [u8; 1026],
+    request: &mut [u8],
+    entry: &mut [u8],
+) -> Asked
+    requires { ⌜ eqb (getD (now call) 0 0) 2 && leb (getD (now call) 46 0) 1 ≡ false ⌝ }
+    ensures { λ r. ⌜ ((signature : List ℕ) (key : Key)
+        → UserYields (answeredBy (settingsOf config (now (users .entry))) (userLent (now (kept .entry)) (now (path .entry)) signature
+        (now (call .entry)) (now (hashes .entry)) (now (held .entry)) (now (request .entry)) (now (entry .entry))) key
+        (callOf (now (call .entry))) (now (answer .entry)))
+        r (userLent (now (kept .exit)) (now (path .entry)) signature (now (call .exit)) (now (hashes .exit)) (now (held .exit))
+        (now (request .exit)) (now (entry .exit)))) ⌝ }
+{
+    let kind = bytes::byte_at(call, 0) as usize;
+    let marked = bools::at_most(bytes::byte_at(call, 1) as usize, 1);
+    if kind == 1 {
+        return update_answer(config, users, answer, kept, call, hashes, request);
+    }
+    if kind == 3 {
+        return read_answer(
+            config,
+            users,
+            answer,
+            kept,
+            call,
+            hashes,
+            held,
+            request,
+            entry,
+        );
+    }
+    if bools::both(bools::equal(kind, 4), marked) {
+        return give_up_answer(config, users, answer, kept, path, call, request);
+    }
+    stray_answer(config, users, answer, kept, request)
+}
+
 // Takes in an answer: hands out the call's next request, or ends the call.
 pub fn take(
     servers: u32,
@@ -141,7 +214,7 @@ pub fn take(
     seed: &[u8; 32],
     tree: &[u8],
     answer: &[u8],
-    kept: &mut [u8; 42],
+    kept: &mut [u8; 46],
     path: &mut [u8; 672],
     signature: &mut [u8; 2508],
     call: &mut [u8; 82],
@@ -160,9 +233,6 @@ pub fn take(
     let config = numbers::config(servers, own, log);
     let kind = bytes::byte_at(call, 0) as usize;
     let marked = bools::at_most(bytes::byte_at(call, 46) as usize, 1);
-    if kind == 1 {
-        return update_answer(config, users, answer, kept, call, hashes, request);
-    }
     if bools::both(bools::equal(kind, 2), marked) {
         return write_answer(
             config,
@@ -180,18 +250,16 @@ pub fn take(
             request,
         );
     }
-    if kind == 3 {
-        return read_answer(
-            config,
-            users,
-            answer,
-            kept,
-            call,
-            hashes,
-            held,
-            request,
-            entry,
-        );
-    }
-    stray_answer(config, users, answer, kept, request)
+    other_answer(
+        config,
+        users,
+        answer,
+        kept,
+        path,
+        call,
+        hashes,
+        held,
+        request,
+        entry,
+    )
 }

@@ -1,73 +1,92 @@
 // The bytes of what a user keeps and of its calls.
 ghost use mathlib.Core.Path.{_≡_};
-ghost use mathlib.Core.Bool.{cond};
 ghost use mathlib.Core.List.{_∷_, _++_};
 ghost use Rattle.sha256.specs.Bytes.{be};
-ghost use Rattle.user_calls.specs.Calls.{updating, writing, reading};
-ghost use Rattle.c_layout.specs.User.{markOf, keptBytes, keptOf, updateBytes, updateOf, writeOf, readOf, callBytes, keptAfter, callAfter};
+ghost use Rattle.user_calls.specs.Calls.{updating, writing, reading, givingUp};
+ghost use Rattle.c_layout.specs.Mark.{markOf};
+ghost use Rattle.c_layout.specs.User.{progressBytes, keptBytes, progressOf, marksFit, keptOf, updateBytes, updateOf, writeOf, readOf, giveUpOf, callBytes, keptAfter, callAfter};
+use super::marks;
 use sha256::bytes;
 use tree::bools;
 use tree::digest;
 use user::call::Kept;
+use user::call::Progress;
+use user_give_up::call::GiveUp;
 use user_read::call::Read;
 use user_update::call::Update;
 use user_write::call::Write;
 
-// A mark's byte.
-pub fn mark(b: bool) -> u8
-    ensures { λ r. ⌜ r ≡ markOf b ⌝ }
+// How far the open write got, as the last four of these bytes stand for it.
+fn progress_of(b: [u8; 46]) -> Progress
+    ensures { λ r. ⌜ r ≡ progressOf b ⌝ }
 {
-    if b {
-        return 1;
+    Progress {
+        levels: b[42],
+        put: bools::equal(b[43] as usize, 1),
+        begun: bools::equal(b[44] as usize, 1),
+        done: b[45],
     }
-    0
 }
 
-// The version where the marks fit, else a number that no version has.
-fn version_of(fits: bool, version: u32) -> u32
-    ensures { λ r. ⌜ r ≡ cond fits version 4294967295 ⌝ }
+// Whether no mark is above 1.
+fn marks_fit(b: [u8; 46]) -> bool
+    ensures { λ r. ⌜ r ≡ marksFit b ⌝ }
 {
-    if fits {
-        return version;
-    }
-    4294967295
+    let opened = bools::at_most(b[40] as usize, 1);
+    let signed = bools::at_most(b[41] as usize, 1);
+    let put = bools::at_most(b[43] as usize, 1);
+    let begun = bools::at_most(b[44] as usize, 1);
+    bools::both(opened, bools::both(signed, bools::both(put, begun)))
 }
 
-// What is kept, as 42 bytes stand for it.
-pub fn kept_of(b: [u8; 42]) -> Kept
+// What is kept, as 46 bytes stand for it.
+pub fn kept_of(b: [u8; 46]) -> Kept
     ensures { λ r. ⌜ r ≡ keptOf b ⌝ }
 {
-    let version = bytes::u32_at(&b, 0);
+    let version = marks::number_beside(marks_fit(b), bytes::u32_at(&b, 0));
     let digest = digest::piece(bytes::from(&b, 4), 0);
     let number = bytes::u32_at(&b, 36);
-    let opened = b[40] as usize;
-    let signed = b[41] as usize;
-    let fits = bools::both(bools::at_most(opened, 1), bools::at_most(signed, 1));
     Kept {
-        version: version_of(fits, version),
+        version,
         digest,
         number,
-        opened: bools::equal(opened, 1),
-        signed: bools::equal(signed, 1),
+        opened: bools::equal(b[40] as usize, 1),
+        signed: bools::equal(b[41] as usize, 1),
+        progress: progress_of(b),
     }
 }
 
-// What is kept, as 42 bytes.
-fn kept_bytes(k: Kept) -> [u8; 42]
+// How far the open write got, as four bytes.
+fn progress_bytes(g: Progress) -> [u8; 4]
+    ensures { λ r. ⌜ r ≡ progressBytes g ⌝ }
+{
+    [g.levels, marks::mark(g.put), marks::mark(g.begun), g.done]
+}
+
+// What is kept, as 46 bytes.
+fn kept_bytes(k: Kept) -> [u8; 46]
     ensures { λ r. ⌜ r ≡ keptBytes k ⌝ }
 {
     let v = bytes::be4(k.version);
     let n = bytes::be4(k.number);
-    let last = [n[0], n[1], n[2], n[3], mark(k.opened), mark(k.signed)];
+    let marked = [
+        n[0],
+        n[1],
+        n[2],
+        n[3],
+        marks::mark(k.opened),
+        marks::mark(k.signed),
+    ];
+    let progress = progress_bytes(k.progress);
     let digest = k.digest;
-    let mut out = [0u8; 42];
+    let mut out = [0u8; 46];
     bytes::put2(&mut out, 0, &v, &digest);
-    bytes::put(&mut out, 36, &last);
+    bytes::put2(&mut out, 36, &marked, &progress);
     out
 }
 
 // Lays what is kept after a step, where the step's code is 0.
-pub fn lay_kept(code: u8, k: Kept, kept: &mut [u8; 42])
+pub fn lay_kept(code: u8, k: Kept, kept: &mut [u8; 46])
     ensures { λ _. ⌜ now (kept .exit) ≡ keptAfter code k (now (kept .entry)) ⌝ }
 {
     let after = kept_bytes(k);
@@ -160,7 +179,7 @@ fn write_rest(w: Write) -> [u8; 36]
     ensures { λ r. ⌜ r ≡ markOf (w .opened) ∷ w .answers ∷ (w .randomizer ++ be 2 (w .length)) ⌝ }
 {
     let n = bytes::be2((w.length % 65536) as u16);
-    let first = [mark(w.opened), w.answers];
+    let first = [marks::mark(w.opened), w.answers];
     let randomizer = w.randomizer;
     let mut out = [0u8; 36];
     bytes::put2(&mut out, 0, &first, &randomizer);
@@ -199,5 +218,22 @@ pub fn lay_read(code: u8, r: Read, call: &mut [u8])
     let p = bytes::be4(r.position);
     let n = bytes::be2(r.length);
     let after = [3, p[0], p[1], p[2], p[3], r.answers, n[0], n[1]];
+    lay(code, &after, call);
+}
+
+// The give-up that a call's bytes stand for.
+pub fn give_up_of(b: [u8; 82]) -> GiveUp
+    ensures { λ r. ⌜ r ≡ giveUpOf b ⌝ }
+{
+    GiveUp {
+        waits: bools::equal(b[1] as usize, 1),
+    }
+}
+
+// Lays a give-up after a step, where the step's code is 0.
+pub fn lay_give_up(code: u8, g: GiveUp, call: &mut [u8])
+    ensures { λ _. ⌜ now (call .exit) ≡ callAfter code (callBytes (givingUp g)) (now (call .entry)) ⌝ }
+{
+    let after = [4, marks::mark(g.waits)];
     lay(code, &after, call);
 }

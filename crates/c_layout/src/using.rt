@@ -1,13 +1,15 @@
-// The user's calls. What is kept is 42 lent bytes, the call that goes on 82.
+// The user's calls. What is kept is 46 lent bytes, the call that goes on 82.
 ghost use mathlib.Core.Path.{_≡_};
 ghost use Rattle.tree.specs.Setup.{settings};
 ghost use Rattle.user.specs.Outcome.{nothing};
-ghost use Rattle.c_layout.specs.User.{askedOf, updateBegun, readBegun, writeBegun, Begins, WriteBegins, settledAnswer};
+ghost use Rattle.c_layout.specs.User.{askedOf, updateBegun, readBegun, writeBegun, giveUpBegun, Begins, WriteBegins, GiveUpBegins, settledAnswer};
+use super::marks;
 use super::numbers;
 use super::user_state;
 use user::call::Found;
 use user::call::Step;
 use user::settled;
+use user_give_up::call::GiveUp;
 use user_read::call::Read;
 use user_update::call::Update;
 use user_write::call::Write;
@@ -41,7 +43,7 @@ pub(crate) fn result(s: Step, f: Found) -> Asked
         refusal: s.refusal as u32,
         server: s.server as u32,
         length: s.length as u32,
-        ended: user_state::mark(s.ended) as u32,
+        ended: marks::mark(s.ended) as u32,
         author: f.author as u32,
         entry: f.length as u32,
     }
@@ -64,7 +66,7 @@ pub fn update_start(
     own: u32,
     log: &[u8; 16],
     users: &[u8],
-    kept: &[u8; 42],
+    kept: &[u8; 46],
     call: &mut [u8; 82],
     request: &mut [u8],
 ) -> Asked
@@ -92,7 +94,7 @@ pub fn write_start(
     tree: &[u8],
     entry: &[u8],
     randomizer: &[u8; 32],
-    kept: &[u8; 42],
+    kept: &[u8; 46],
     path: &[u8; 672],
     call: &mut [u8; 82],
     held: &mut [u8; 1026],
@@ -126,7 +128,7 @@ pub fn read_start(
     log: &[u8; 16],
     users: &[u8],
     position: u32,
-    kept: &[u8; 42],
+    kept: &[u8; 46],
     call: &mut [u8; 82],
     request: &mut [u8],
     entry: &[u8],
@@ -148,13 +150,41 @@ pub fn read_start(
     result(step, left.found)
 }
 
+// Starts a give-up of the open write, or repeats one that has begun. What is kept says from then on that it has.
+pub fn give_up_start(
+    servers: u32,
+    own: u32,
+    log: &[u8; 16],
+    users: &[u8],
+    kept: &mut [u8; 46],
+    path: &[u8; 672],
+    call: &mut [u8; 82],
+    request: &mut [u8],
+) -> Asked
+    ensures { λ r. ⌜ GiveUpBegins (giveUpBegun (settings servers own (now (log .entry)) (now (users .entry)))
+        (now (kept .entry)) (now (path .entry)) (now (call .entry)) (now (request .entry)))
+        r (now (kept .exit)) (now (call .exit)) (now (request .exit)) ⌝ }
+{
+    let left = GiveUp::start(
+        numbers::config(servers, own, log),
+        users,
+        user_state::kept_of(*kept),
+        path,
+        request,
+    );
+    let step = left.step;
+    user_state::lay_kept(step.code, left.kept, kept);
+    user_state::lay_give_up(step.code, left.call, call);
+    plain_result(step)
+}
+
 // Whether the own operation at a position is settled.
 pub fn settled(
     servers: u32,
     own: u32,
     log: &[u8; 16],
     users: &[u8],
-    kept: &[u8; 42],
+    kept: &[u8; 46],
     position: u32,
 ) -> SettledAnswer
     ensures { λ r. ⌜ r ≡ settledAnswer (settings servers own (now (log .entry)) (now (users .entry))) (now (kept .entry)) position ⌝ }
@@ -167,6 +197,6 @@ pub fn settled(
     );
     SettledAnswer {
         code: given.code as u32,
-        settled: user_state::mark(given.settled) as u32,
+        settled: marks::mark(given.settled) as u32,
     }
 }

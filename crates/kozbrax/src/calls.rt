@@ -3,7 +3,7 @@ ghost use mathlib.Core.Path.{_≡_};
 ghost use Rattle.tree.specs.Setup.{settings};
 ghost use Rattle.user.specs.Outcome.{keyOf};
 ghost use Rattle.c_layout.specs.Server.{serverAnswered, ServerYields};
-ghost use Rattle.c_layout.specs.User.{updateBegun, writeBegun, readBegun, Begins, WriteBegins, userLent, UserYields, userAnswered, settledAnswer};
+ghost use Rattle.c_layout.specs.User.{updateBegun, writeBegun, readBegun, giveUpBegun, Begins, WriteBegins, GiveUpBegins, userLent, UserYields, userAnswered, settledAnswer};
 use c_layout::serving;
 use c_layout::serving::Served;
 use c_layout::taking;
@@ -18,7 +18,7 @@ pub extern "C" fn kozbrax_server(
     own: u32,
     log: &[u8; 16],
     users: &[u8],
-    head: &mut [u8; 39],
+    head: &mut [u8; 79],
     store: &mut [u8],
     used: u64,
     request: &[u8],
@@ -38,7 +38,7 @@ pub extern "C" fn kozbrax_update_start(
     own: u32,
     log: &[u8; 16],
     users: &[u8],
-    kept: &[u8; 42],
+    kept: &[u8; 46],
     call: &mut [u8; 82],
     request: &mut [u8],
 ) -> Asked
@@ -59,7 +59,7 @@ pub extern "C" fn kozbrax_write_start(
     tree: &[u8],
     entry: &[u8],
     randomizer: &[u8; 32],
-    kept: &[u8; 42],
+    kept: &[u8; 46],
     path: &[u8; 672],
     call: &mut [u8; 82],
     held: &mut [u8; 1026],
@@ -94,7 +94,7 @@ pub extern "C" fn kozbrax_read_start(
     log: &[u8; 16],
     users: &[u8],
     position: u32,
-    kept: &[u8; 42],
+    kept: &[u8; 46],
     call: &mut [u8; 82],
     request: &mut [u8],
     entry: &[u8],
@@ -116,6 +116,25 @@ pub extern "C" fn kozbrax_read_start(
     )
 }
 
+// Starts a give-up of the open write, or repeats one that has begun. What is kept says from then on that it has.
+#[no_mangle]
+pub extern "C" fn kozbrax_give_up_start(
+    servers: u32,
+    own: u32,
+    log: &[u8; 16],
+    users: &[u8],
+    kept: &mut [u8; 46],
+    path: &[u8; 672],
+    call: &mut [u8; 82],
+    request: &mut [u8],
+) -> Asked
+    ensures { λ r. ⌜ GiveUpBegins (giveUpBegun (settings servers own (now (log .entry)) (now (users .entry)))
+        (now (kept .entry)) (now (path .entry)) (now (call .entry)) (now (request .entry)))
+        r (now (kept .exit)) (now (call .exit)) (now (request .exit)) ⌝ }
+{
+    using::give_up_start(servers, own, log, users, kept, path, call, request)
+}
+
 // Takes in an answer: hands out the call's next request, or ends the call.
 #[no_mangle]
 pub extern "C" fn kozbrax_take(
@@ -127,7 +146,7 @@ pub extern "C" fn kozbrax_take(
     seed: &[u8; 32],
     tree: &[u8],
     answer: &[u8],
-    kept: &mut [u8; 42],
+    kept: &mut [u8; 46],
     path: &mut [u8; 672],
     signature: &mut [u8; 2508],
     call: &mut [u8; 82],
@@ -170,7 +189,7 @@ pub extern "C" fn kozbrax_settled(
     own: u32,
     log: &[u8; 16],
     users: &[u8],
-    kept: &[u8; 42],
+    kept: &[u8; 46],
     position: u32,
 ) -> SettledAnswer
     ensures { λ r. ⌜ r ≡ settledAnswer (settings servers own (now (log .entry)) (now (users .entry))) (now (kept .entry)) position ⌝ }

@@ -1,6 +1,6 @@
 use Rattle.c_layout.proofs.States.{mark-yes, mark-no}
-use Rattle.c_layout.proofs.user_state.mark.Statement.{statement}
-use Rattle.c_layout.proofs.user_state.mark.Tie as tie
+use Rattle.c_layout.proofs.marks.mark.Statement.{statement}
+use Rattle.c_layout.proofs.marks.mark.Tie as tie
 
 returns : tie.Need-returns
 returns c = mark-yes _ (c .if1 .taken)
