@@ -11,17 +11,19 @@ use Rattle.sha256.specs.Bytes.{written}
 use Rattle.sha256.proofs.Laws.{be-length, written-fits, written-length}
 use Rattle.tree.specs.Setup.{Settings}
 use Rattle.tree.proofs.Cases.{by-bool}
+use Rattle.user.specs.declared.call.Kept.{Kept}
 use Rattle.user.specs.declared.call.Step.{Step}
 use Rattle.user.specs.declared.call.Found.{Found}
 use Rattle.user.specs.Outcome.{State, Lent, Outcome}
 use Rattle.user_update.specs.declared.call.Update.{Update}
 use Rattle.user_write.specs.declared.call.Write.{Write}
 use Rattle.user_read.specs.declared.call.Read.{Read}
-use Rattle.user_calls.specs.Calls.{Call, idle, updating, writing, reading, Input, startUpdate, startWrite, startRead, answer, asCall, taken, stepped}
+use Rattle.user_give_up.specs.declared.call.GiveUp.{GiveUp}
+use Rattle.user_calls.specs.Calls.{Call, idle, updating, writing, reading, givingUp, Input, startUpdate, startWrite, startRead, startGiveUp, answer, asCall, taken, stepped}
 use Rattle.user_read.proofs.ReadAnswers.{read-state}
-use Rattle.c_layout.specs.User.{keptOf, updateBytes, writeBytes, readBytes, callBytes, callOf, callAfter, keptAfter, keptBy, askedOf, UserLent, userLent, stateIn, lentIn, userLeft, userBegun}
-use Rattle.c_layout.proofs.Inverses.{mark-read, kept-decode-encode, update-decode-encode, write-decode-encode, read-decode-encode}
-use Rattle.whole_run.proofs.Starts.{update-start, read-start, write-start}
+use Rattle.c_layout.specs.User.{keptBytes, keptOf, updateBytes, writeBytes, readBytes, callBytes, callOf, callAfter, keptAfter, keptBy, askedOf, UserLent, userLent, stateIn, lentIn, userLeft, userBegun, giveUpBegun}
+use Rattle.c_layout.proofs.Inverses.{mark-read, kept-decode-encode, update-decode-encode, write-decode-encode, read-decode-encode, give-up-decode-encode}
+use Rattle.whole_run.proofs.Starts.{update-start, read-start, give-up-start, write-start}
 use Rattle.c_runs.specs.Bytes.{UserBytes, stepOf, outcomeOf, begun, called}
 use Rattle.c_runs.proofs.Ranges.{KeptFits, UpdateFits, CallFits, Fits}
 
@@ -40,6 +42,7 @@ call-length (writing w) f =
     let d = f .random in
     let u = update-length (w .update) (f .update) in
     simp length-append (omega (arith, be-length 2 (w .length)))
+call-length (givingUp g) f = omega arith
 call-length (reading r) f = simp length-append (omega (arith, be-length 4 (r .position), be-length 2 (r .length)))
 
 -- A call that is laid is the call that is read.
@@ -57,6 +60,7 @@ read-back (writing w) f b rest e =
     let p = u .position in
     let n = f .short in
     write-decode-encode b w rest (u .digest) (f .random) e (omega arith) (omega arith) (omega arith) (omega arith)
+read-back (givingUp g) f b rest e = give-up-decode-encode b g rest e
 read-back (reading r) f b rest e =
     let p = f .position in
     let n = f .short in
@@ -83,13 +87,18 @@ unfolding outcomeOf userLeft callAfter
 outcome-read b kept o m z f l e =
     rw (step-read (o .step) (o .found), found-read (o .step) (o .found), e, eq-eqb (o .step .code) 0 z, call-laid (o .call) (b .call) (f .call) l, ← f .key)
 
+-- What is kept, laid and read back.
+pub kept-read : (k : Kept) → KeptFits k → keptOf (keptBytes k) ≡ k
+kept-read k f = kept-decode-encode k (f .digest) (f .version) (f .number)
+
 -- What is kept after an answer, read back. A Read keeps nothing new.
 pub kept-answered : (s : Settings) (σ : State) (m : Lent) (c : Call) (a kept : List ℕ) → keptOf kept ≡ σ .kept → KeptFits (taken s σ m c a .state .kept)
     → CallFits c → keptOf (keptBy (taken s σ m c a .call) 0 (taken s σ m c a .state .kept) kept) ≡ taken s σ m c a .state .kept
 unfolding taken keptBy keptAfter
 kept-answered s σ m idle a kept e k f = absurd f
-kept-answered s σ m (updating u) a kept e k f = kept-decode-encode _ (k .digest) (k .version) (k .number)
-kept-answered s σ m (writing w) a kept e k f = kept-decode-encode _ (k .digest) (k .version) (k .number)
+kept-answered s σ m (updating u) a kept e k f = kept-read _ k
+kept-answered s σ m (writing w) a kept e k f = kept-read _ k
+kept-answered s σ m (givingUp g) a kept e k f = kept-read _ k
 kept-answered s σ m (reading r) a kept e k f = e ∙ sym (ap (λ (x : State). x .kept) (read-state s σ m r a))
 
 -- the bytes of a call stay as many
@@ -117,6 +126,16 @@ module _ (s : Settings) (u : UserBytes) where
   pub read-called : (m : Lent) (i : ℕ) → called s u (startRead m i) ≡ userLeft (given b m) (b .kept) (outcome (startRead m i))
   unfolding called begun userBegun userLeft stepped
   read-called m i = ap (λ (o : Outcome Read). userLeft (given b m) (b .kept) (asCall reading o)) (sym (read-start s (stateIn b) m i))
+
+  -- a give-up's start changes what is kept
+  abbrev pub keptNow : Lent → List ℕ
+  keptNow m = let o = outcome (startGiveUp m) in keptAfter (o .step .code) (o .state .kept) (b .kept)
+
+  pub give-up-called : (m : Lent) → called s u (startGiveUp m) ≡ userLeft (given b m) (keptNow m) (outcome (startGiveUp m))
+  unfolding called begun giveUpBegun userLeft stepped
+  give-up-called m =
+      ap (λ (o : Outcome GiveUp). userLeft (given b m) (keptAfter (o .step .code) (o .state .kept) (b .kept)) (asCall givingUp o))
+      (sym (give-up-start s (stateIn b) m))
 
   pub write-called : (m : Lent) (entry randomizer : List ℕ)
       → called s u (startWrite m entry randomizer) ≡ userLeft (given b m) (b .kept) (outcome (startWrite m entry randomizer))

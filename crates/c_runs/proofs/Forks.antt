@@ -5,17 +5,17 @@ use mathlib.Core.List.{List, [], _∷_, _++_}
 use Prim.Native.Nat.{ℕ}
 use lib.Dec.{eqb}
 use Rattle.tree.proofs.Cases.{by-eqb}
-use Rattle.user_calls.specs.Calls.{Input, startUpdate, startWrite, startRead, answer}
 use Rattle.server.specs.declared.Head.{Head}
 use Rattle.server.specs.Serve.{served}
 use Rattle.c_layout.specs.Server.{headOf, resultOf, serverAnswered}
 use Rattle.whole_run.specs.World.{Setup, settingsFor, Event, User, userStep, dropped}
-use Rattle.whole_run.specs.Runs.{Server, serverAfter, serverEvents, World, Step, user, drops, server, newServer, NewWorld, newWorld, withUser, withServer, step, run, FairInput, FairStep, Fair}
+use Rattle.whole_run.specs.Runs.{Server, serverAfter, serverEvents, World, Step, user, drops, server, newServer, NewWorld, newWorld, withUser, withServer, step, run}
+use Rattle.fork_bound.specs.Fair.{FairStep, Fair}
 use Rattle.fork_bound.specs.Claim.{BoundHolds, ForkBound}
 use Rattle.fork_bound.proofs.Fork.{fork-bound}
 use Rattle.c_runs.specs.Bytes.{UserBytes, userOf, userCalled, callDropped, serverBytesAfter, NewBytes, newServerBytes}
 use Rattle.c_runs.specs.Runs.{ByteWorld, serverOf, worldOf, callStep, byteRun}
-use Rattle.c_runs.specs.Claim.{ByteForkBound, Sized}
+use Rattle.c_runs.specs.Claim.{ByteForkBound}
 use Rattle.c_runs.proofs.Users.{Laid, user-same, user-laid}
 use Rattle.c_runs.proofs.Servers.{HeadSmall, head-small, head-same}
 use Rattle.c_runs.proofs.Zeros.{zeroUser, zeroServer, user-zero, head-zero, head-zero-small, laid-zero, user-dropped, laid-dropped}
@@ -24,14 +24,6 @@ use Rattle.c_runs.proofs.Zeros.{zeroUser, zeroServer, user-zero, head-z
 pub users-set : {A B : Type 0} (f : A → B) (x : ℕ → A) (a : ℕ) (y : A) (z : B) → f y ≡ z
     → _≡_ {A = ℕ → B} (λ b. f (cond (eqb b a) y (x b))) (λ b. cond (eqb b a) z (f (x b)))
 users-set f x a y z e = fun-ext (λ b. by-eqb (λ t. f (cond t y (x b)) ≡ cond t z (f (x b))) b a (λ _. e) (λ _. refl))
-
--- a fair start of a Write has a randomizer of 32 bytes
-fair-sized : (g : Setup) (log : List Event) (u : User) (i : Input) → FairInput g log u i → Sized i
-unfolding FairInput
-fair-sized g log u (startUpdate m) f = tt
-fair-sized g log u (startWrite m entry randomizer) f = f
-fair-sized g log u (startRead m i) f = tt
-fair-sized g log u (answer a) f = tt
 
 -- what holds of the bytes between calls
 record Holds (g : Setup) (w : ByteWorld) : Type 0 where
@@ -51,7 +43,7 @@ module _ (g : Setup) (w : ByteWorld) (h : Holds g w) where
       let u = w .users a in
       ap (beside w (userStep s (userOf u) i .events ++ w .log))
       (users-set userOf (w .users) a (userCalled s u i) (userStep s (userOf u) i .user)
-      (user-same s u (h .users a) i (fair-sized g (w .log) (userOf u) i f)))
+      (user-same s u (h .users a) i (f .0)))
   step-same (drops a) f =
       ap (beside w (w .log)) (users-set userOf (w .users) a (callDropped (w .users a)) (dropped (userOf (w .users a))) (user-dropped (w .users a)))
   step-same (server s q buffer) f =
@@ -72,7 +64,7 @@ module _ (g : Setup) (w : ByteWorld) (h : Holds g w) where
   unfolding worldOf callStep FairStep serverBytesAfter
   step-holds (user a i) f =
       let u = w .users a in
-      let l = user-laid (settingsFor g a) u (h .users a) i (fair-sized g (w .log) (userOf u) i f) in
+      let l = user-laid (settingsFor g a) u (h .users a) i (f .0) in
       record { users = users-on a (userCalled (settingsFor g a) u i) l; heads = h .heads }
   step-holds (drops a) f =
       record { users = users-on a (callDropped (w .users a)) (laid-dropped (settingsFor g a) (w .users a) (h .users a)); heads = h .heads }

@@ -2,25 +2,25 @@
 use mathlib.Core.Path.{_≡_, refl, sym, _∙_, ap, ap₂, subst, fun-ext}
 use mathlib.Core.Logic.{_⊎_, inl, inr, ⊎-elim}
 use mathlib.Core.Bool.{Bool, false, cond, _&&_}
-use mathlib.Core.List.{List, [], _∷_}
+use mathlib.Core.List.{List, [], _∷_, _++_}
 use Prim.Native.Nat.{ℕ, zero, suc}
 use lib.Dec.{eqb}
 use borrow.Author.Tests.{ne-eqb}
 use Rattle.tree.proofs.Cases.{by-bool, by-eqb, cases-eq}
 use Rattle.user.specs.declared.call.Kept.{Kept}
 use Rattle.user.specs.declared.call.Step.{Step}
-use Rattle.user_calls.specs.Calls.{Input, startUpdate, startWrite, startRead, answer}
+use Rattle.user_calls.specs.Calls.{Input, startUpdate, startWrite, startRead, startGiveUp, answer}
 use Rattle.server.specs.declared.Head.{Head}
 use Rattle.c_layout.specs.Server.{headOf, resultOf, serverAnswered}
 use Rattle.whole_run.specs.World.{Sent, User, returned, userStep}
-use Rattle.whole_run.specs.Runs.{Server, newServer, serverAfter}
+use Rattle.whole_run.specs.Runs.{Server, newServer, serverAfter, Sized}
 use Rattle.honest_run.specs.Network.{HonestSetup, settingsIn, publicTo, Network, reply, answerBytes, arrives, steps, comesBack}
 use Rattle.honest_run.specs.Network.{inRecords, networkAfter, handed, Act, calls, Run, wrote, doAct, newNetwork, runOf, runSeen}
-use Rattle.honest_run.specs.Claim.{ValidInput, ValidCall, countOf, AllValid, NotRefused, Serves, CallsServe, HonestRun, Valid, Refused}
+use Rattle.honest_run.specs.Claim.{ValidInput, ValidCall, countOf, AllValid, NotRefused, Serves, SameHeads, BringsBack, CallsServe, HonestRun, Valid, Refused}
 use Rattle.honest_run.proofs.Theorem.{honest-run}
 use Rattle.c_runs.specs.Bytes.{UserBytes, userOf, stepOf, called, userCalled, serverBytesAfter, NewBytes, newServerBytes}
 use Rattle.c_runs.specs.Runs.{ByteNetwork, serverOf, networkOf, replyBytes, byteArrives, byteAnswer, byteSteps, inBytes, zeroNetwork}
-use Rattle.c_runs.specs.Claim.{Sized, AllSized, ByteHonestRun}
+use Rattle.c_runs.specs.Claim.{AllSized, ByteHonestRun}
 use Rattle.c_runs.proofs.Users.{Laid, user-same, user-laid, step-same, refusal-same}
 use Rattle.c_runs.proofs.Servers.{HeadSmall, head-small, head-same}
 use Rattle.c_runs.proofs.Zeros.{user-zero, head-zero, head-zero-small, laid-zero}
@@ -221,12 +221,34 @@ module _ (c : HonestSetup) (b : NewBytes) where
   valid-same (calls a i k late ∷ xs) z v =
       (subst (λ (r : Run Network). Valid c r (calls a i k late) ⊎ Refused c r (calls a i k late)) (run-same xs (z .1)) (v .0), valid-same xs (z .1) (v .1))
 
+-- the later part of a sized list, and the earlier one
+sized-before : (zs ys : List Act) → AllSized (zs ++ ys) → AllSized ys
+unfolding AllSized
+sized-before [] ys z = z
+sized-before (calls a i k late ∷ zs) ys z = sized-before zs ys (z .1)
+
+-- what a give-up brings back, at each earlier place of the list
+module _ (c : HonestSetup) (b : NewBytes) (xs : List Act) (sized : AllSized xs) (x : Network) where
+  brings-same : (i : Input) → BringsBack c (runFrom c (zeroWorld b)) xs x i → BringsBack c (stood c b) xs x i
+  unfolding BringsBack
+  brings-same (startUpdate m) f = tt
+  brings-same (startWrite m entry randomizer) f = tt
+  brings-same (startRead m i) f = tt
+  brings-same (startGiveUp m) f = λ ys zs e logs none.
+      let r = run-same c b ys (sized-before zs ys (subst AllSized e sized)) in
+      let whole = run-same c b xs sized in
+      subst (λ (q : Run Network). SameHeads c x (q .network)) (sym r)
+      (f ys zs e (ap (λ (q : Run Network). q .log) (sym r) ∙ logs ∙ ap (λ (q : Run Network). q .log) whole)
+      (λ a. ap (λ (q : Run Network). q .network .users a .state .kept .opened) (sym r) ∙ none a))
+  brings-same (answer y) f = tt
+
 -- a valid call's randomizer has 32 bytes
 valid-sized : (c : HonestSetup) (r : Run Network) (a : ℕ) (k : Kept) (i : Input) → ValidInput c r a k i → Sized i
 unfolding ValidInput
 valid-sized c r a k (startUpdate m) v = tt
 valid-sized c r a k (startWrite m entry randomizer) v = v .random
 valid-sized c r a k (startRead m i) v = tt
+valid-sized c r a k (startGiveUp m) v = tt
 valid-sized c r a k (answer y) v = absurd v
 
 -- So the honest run holds of it.
@@ -239,11 +261,13 @@ byte-honest-run c range b xs sized all a i valid =
     let e = run-same c b xs sized in
     let n = countOf c (stood c b xs) a i in
     let Runs : Run Network → Type 0 = λ q.
-    NotRefused (countOf c q a i) (handed (inRecords c) (q .network) a i) × Serves q a (networkAfter (inRecords c) (q .network) a i (countOf c q a i) .users a) i in
+    let after = networkAfter (inRecords c) (q .network) a i (countOf c q a i) in
+    NotRefused (countOf c q a i) (handed (inRecords c) (q .network) a i) × Serves q a (after .users a) i × BringsBack c (runFrom c (zeroWorld b)) xs after i in
     let all-runs : Runs (stood c b xs) =
     subst Runs (sym e) (honest-run c range (zeroWorld b) xs (valid-same c b xs sized all) a i (subst (λ (q : Run Network). ValidCall c q a i) e valid)) in (
       λ k within.
           let step = all-runs .0 k within in
           subst (λ (x : Step). (x .code ≡ 0) × (x .ended ≡ eqb k n)) (sym (handed-zero c (r .network) h a i size k (step .0))) step,
       subst (λ (w : Network). Serves (stood c b xs) a (w .users a) i) (sym (after-same c (r .network) h a i size n)) (all-runs .1),
+      subst (λ (w : Network). BringsBack c (stood c b) xs w i) (sym (after-same c (r .network) h a i size n)) (brings-same c b xs sized _ i (all-runs .2)),
     )

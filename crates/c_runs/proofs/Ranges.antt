@@ -19,7 +19,7 @@ use Rattle.tree.proofs.Pieces.{piece-length}
 use Rattle.user.specs.declared.ask.Want.{Want}
 use Rattle.user.specs.declared.call.Kept.{Kept}
 use Rattle.user.specs.Asking.{userSetupChecks, requestRoom, ofNode, ofStatus, refused, done, asking}
-use Rattle.user.specs.Outcome.{State, Lent, withHashes, withHeld, Outcome}
+use Rattle.user.specs.Outcome.{State, withKept, Lent, withHashes, withHeld, Outcome}
 use Rattle.user.proofs.Passed.{setup-passed, by-cond}
 use Rattle.user_update.specs.declared.call.Update.{Update}
 use Rattle.user_update.specs.Update.{freshUpdate, toldLabel, headHolds, statusTaken, updateWant, updateNext, updateHashes, updateChecks, arrived, updateSetup, updateStarted, updateTaken}
@@ -34,7 +34,11 @@ use Rattle.user_read.specs.declared.call.Read.{Read}
 use Rattle.user_read.specs.Read.{readWant, readChecks, readCount, freshRead, readAsks, readEnds, readNext, readCollected, readStarted, readTaken}
 use Rattle.user_read.proofs.ReadRules as Reads
 use Rattle.user_read.proofs.ReadAnswers.{read-state, read-place, read-ends}
-use Rattle.user_calls.specs.Calls.{Call, idle, updating, writing, reading, answer, asCall, taken}
+use Rattle.user_give_up.specs.declared.call.GiveUp.{GiveUp}
+use Rattle.user_give_up.specs.GiveUp.{nextTold, giveUpWant, beginning, told, closed, giveUpGoes, giveUpStarted, giveUpTaken}
+use Rattle.user_give_up.proofs.GiveUpRules as Gives
+use Rattle.user_give_up.proofs.GiveUpAnswers.{no-give-up}
+use Rattle.user_calls.specs.Calls.{Call, idle, updating, writing, reading, givingUp, answer, asCall, taken}
 use Rattle.whole_run.proofs.Requests.{entry-sizes}
 
 -- the ranges
@@ -63,6 +67,7 @@ CallFits idle = ⊥
 CallFits (updating u) = UpdateFits u
 CallFits (writing w) = WriteFits w
 CallFits (reading r) = ReadFits r
+CallFits (givingUp g) = Unit {0}
 
 -- once all heads are told, an Update is for no position below the version
 abbrev pub CallAbove : Settings → State → Call → Type 0
@@ -70,6 +75,7 @@ CallAbove s σ idle = Unit {0}
 CallAbove s σ (updating u) = Above (s .servers) (σ .kept .version) u
 CallAbove s σ (writing w) = Unit {0}
 CallAbove s σ (reading r) = Unit {0}
+CallAbove s σ (givingUp g) = Unit {0}
 
 pub record Fits (m : Lent) (o : Outcome Call) : Type 0 where
   pub kept : KeptFits (o .state .kept)
@@ -268,6 +274,36 @@ module _ (s : Settings) where
         Reads.by-taken s (o .state) l (o .call) b (λ y. y .step .code ≡ 0 → ⊥) (λ x. x) (λ w _ _ _. let q = w .waiting in omega arith)
         (λ w _ _. let q = w .waiting in omega arith)
 
+  -- a give-up: its steps keep all but the progress
+  abbrev GiveUpKeeps : Lent → Outcome GiveUp → Type 0
+  GiveUpKeeps m o = o .step .code ≡ 0 → StepOk s m (asCall givingUp o)
+
+  give-up-ok : (σ : State) (m : Lent) → KeptFits (σ .kept) → GiveUpKeeps m (giveUpGoes s σ m)
+  unfolding asking done closed giveUpWant taken
+  give-up-ok σ m k =
+      Gives.by-goes s σ m (GiveUpKeeps m)
+      (λ _ _. record {
+        fits = record {
+          kept = record { digest = k .digest; version = k .version; number = k .number };
+          call = tt;
+          out = refl;
+          key = refl;
+        };
+        above = λ _. tt;
+        over = λ _ l b z. no-give-up s _ l b z;
+      })
+      (λ n _. record {
+        fits = record { kept = k; call = tt; out = ne-eqb (nextTold (s .servers) (σ .kept)) 0 n; key = refl };
+        above = λ _. tt;
+        over = λ y. not-both false y refl;
+      })
+
+  told-ok : (σ : State) (m : Lent) (c : GiveUp) (a : List ℕ) → KeptFits (σ .kept) → GiveUpKeeps m (giveUpTaken s σ m c a)
+  unfolding told refused
+  told-ok σ m c a k =
+      Gives.by-taken s σ m c a (GiveUpKeeps m) (λ n z. absurd (n z))
+      (λ _. give-up-ok (withKept σ (told (s .servers) (σ .kept))) m (record { digest = k .digest; version = k .version; number = k .number }))
+
   -- an Update that goes on
   update-above : (σ : State) (m : Lent) (u : Update) (a : List ℕ) → Above n (σ .kept .version) u → updateTaken s σ m u a .step .code ≡ 0
       → updateTaken s σ m u a .step .ended ≡ false → Above n (updateTaken s σ m u a .state .kept .version) (updateTaken s σ m u a .call)
@@ -290,6 +326,7 @@ module _ (s : Settings) where
       record { fits = write-fits σ m w a k f z; above = λ _. tt; over = λ e l b. write-over σ m w a k f z e l b }
   answer-ok σ m (reading r) a k f g z =
       record { fits = read-fits σ m r a k f z; above = λ _. tt; over = λ e l b. read-over σ m r a z e l b }
+  answer-ok σ m (givingUp c) a k f g z = told-ok σ m c a k z
 
   -- the starts: each leaves what is kept, and has a request out
   abbrev Begins : State → Lent → Outcome Call → Type 0
@@ -386,3 +423,11 @@ module _ (s : Settings) where
           refl,
         ))))
         (λ e z. absurd (eqb-false code 0 e z))
+
+    -- a give-up's start leaves what is kept, but for the mark that it has begun
+    pub give-up-begins : giveUpStarted s σ m .step .code ≡ 0 → StepOk s m (asCall givingUp (giveUpStarted s σ m))
+    unfolding beginning refused
+    give-up-begins =
+        Gives.by-started s σ m (GiveUpKeeps m) (λ n y. absurd (n y))
+        (λ _. give-up-ok (withKept σ (beginning (σ .kept))) m
+        (record { digest = k .digest; version = k .version; number = k .number }))

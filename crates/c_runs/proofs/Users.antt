@@ -11,15 +11,15 @@ use Rattle.tree.specs.Setup.{Settings}
 use Rattle.tree.proofs.Cases.{by-bool, cases-eq}
 use Rattle.user.specs.Asking.{refused}
 use Rattle.user.specs.Outcome.{State, Lent, Outcome}
-use Rattle.user_calls.specs.Calls.{Call, idle, Input, startUpdate, startWrite, startRead, answer, taken, stepped}
-use Rattle.c_layout.specs.User.{keptOf, callOf, keptBy, askedOf, UserLent, stateIn, lentIn, UserOutcome, userLeft, answeredBy, userAnswered}
+use Rattle.user_calls.specs.Calls.{Call, idle, Input, startUpdate, startWrite, startRead, startGiveUp, answer, taken, stepped}
+use Rattle.c_layout.specs.User.{keptOf, callOf, keptAfter, keptBy, askedOf, UserLent, stateIn, lentIn, UserOutcome, userLeft, answeredBy, userAnswered}
 use Rattle.whole_run.specs.World.{sentBy, returned, after, userStep}
+use Rattle.whole_run.specs.Runs.{Sized}
 use Rattle.whole_run.proofs.Refusals.{accepted-step, refused-step}
-use Rattle.fork_bound.proofs.UserSteps.{stray}
+use Rattle.fork_bound.proofs.Events.{stray}
 use Rattle.c_runs.specs.Bytes.{UserBytes, userOf, stepOf, outcomeOf, called, keyFor, userCalled}
-use Rattle.c_runs.specs.Claim.{Sized}
-use Rattle.c_runs.proofs.Ranges.{KeptFits, CallFits, CallAbove, StepOk, answer-ok, update-begins, read-begins, write-begins}
-use Rattle.c_runs.proofs.Decoding.{outcome-read, kept-answered, call-size, given, outcome, update-called, read-called, write-called}
+use Rattle.c_runs.proofs.Ranges.{give-up-begins, KeptFits, CallFits, CallAbove, StepOk, answer-ok, update-begins, read-begins, write-begins}
+use Rattle.c_runs.proofs.Decoding.{kept-read, keptNow, give-up-called, outcome-read, kept-answered, call-size, given, outcome, update-called, read-called, write-called}
 
 -- what holds of a user's bytes between calls
 pub record Laid (s : Settings) (u : UserBytes) : Type 0 where
@@ -49,6 +49,7 @@ module _ (s : Settings) (u : UserBytes) (laid : Laid s u) where
   alike (startUpdate m) = inl refl
   alike (startWrite m entry randomizer) = inl refl
   alike (startRead m i) = inl refl
+  alike (startGiveUp m) = inl refl
   alike (answer a) =
       by-bool (λ t. eqb (u .sent .server) 0 ≡ t
       → (taken s σ (lentIn b (u .key)) (cond t idle (callOf (b .call))) a ≡ outcome s u (answer a))
@@ -60,6 +61,7 @@ module _ (s : Settings) (u : UserBytes) (laid : Laid s u) where
   lentWith (startUpdate m) = m
   lentWith (startWrite m entry randomizer) = m
   lentWith (startRead m i) = m
+  lentWith (startGiveUp m) = m
   lentWith (answer a) = lentIn b (u .key)
 
   pub record Read (i : Input) : Type 0 where
@@ -69,6 +71,11 @@ module _ (s : Settings) (u : UserBytes) (laid : Laid s u) where
   start-read : (m : Lent) (o : Outcome Call) → o .step .code ≡ 0 → StepOk s m o → o .state ≡ σ
       → outcomeOf (userLeft (given b m) (b .kept) o) (m .key) ≡ o
   start-read m o z l e = outcome-read (given b m) (b .kept) o m z (l .fits) (laid .size) (sym (ap (λ (x : State). x .kept) e))
+
+  kept-now : (m : Lent) → outcome s u (startGiveUp m) .step .code ≡ 0 → KeptFits (outcome s u (startGiveUp m) .state .kept)
+      → keptOf (keptNow s u m) ≡ outcome s u (startGiveUp m) .state .kept
+  unfolding keptAfter
+  kept-now m z f = rw (eq-eqb (outcome s u (startGiveUp m) .step .code) 0 z) (kept-read (outcome s u (startGiveUp m) .state .kept) f)
 
   answer-read : (a : List ℕ) → CallFits (callOf (b .call)) → StepOk s (lentIn b (u .key)) (outcome s u (answer a)) → outcome s u (answer a) .step .code ≡ 0
       → outcomeOf (called s u (answer a)) (u .key) ≡ outcome s u (answer a)
@@ -100,6 +107,14 @@ module _ (s : Settings) (u : UserBytes) (laid : Laid s u) where
         step = x .0;
         same = ap (λ (o : UserOutcome). outcomeOf o (m .key)) (read-called s u m i) ∙ start-read m (outcome s u (startRead m i)) z (x .0) (x .1);
       }
+  reads (startGiveUp m) sized z =
+      let o = outcome s u (startGiveUp m) in
+      let x = give-up-begins s σ m (laid .kept) z in
+      record {
+        step = x;
+        same = ap (λ (l : UserOutcome). outcomeOf l (m .key)) (give-up-called s u m)
+            ∙ outcome-read (given b m) (keptNow s u m) o m z (x .fits) (laid .size) (kept-now m z (x .fits .kept));
+      }
   reads (answer a) sized z =
       by-bool (λ t. eqb (u .sent .server) 0 ≡ t → Read (answer a)) (eqb (u .sent .server) 0) (λ _ e. absurd (laid .over e a z))
       (λ _ e.
@@ -113,6 +128,7 @@ module _ (s : Settings) (u : UserBytes) (laid : Laid s u) where
   code-same (startUpdate m) = ap (λ (o : UserOutcome). o .result .code) (update-called s u m)
   code-same (startWrite m entry randomizer) = ap (λ (o : UserOutcome). o .result .code) (write-called s u m entry randomizer)
   code-same (startRead m i) = ap (λ (o : UserOutcome). o .result .code) (read-called s u m i)
+  code-same (startGiveUp m) = ap (λ (o : UserOutcome). o .result .code) (give-up-called s u m)
   code-same (answer a) = refl
 
   size-same : (i : Input) → length (called s u i .lent .call) ≡ 82
@@ -121,6 +137,8 @@ module _ (s : Settings) (u : UserBytes) (laid : Laid s u) where
   size-same (startWrite m entry randomizer) =
       ap (λ (o : UserOutcome). length (o .lent .call)) (write-called s u m entry randomizer) ∙ call-size (given b m) (b .kept) _ ∙ laid .size
   size-same (startRead m i) = ap (λ (o : UserOutcome). length (o .lent .call)) (read-called s u m i) ∙ call-size (given b m) (b .kept) _ ∙ laid .size
+  size-same (startGiveUp m) =
+      ap (λ (o : UserOutcome). length (o .lent .call)) (give-up-called s u m) ∙ call-size (given b m) (keptNow s u m) _ ∙ laid .size
   size-same (answer a) = call-size b _ _ ∙ laid .size
 
   -- a call that is not refused

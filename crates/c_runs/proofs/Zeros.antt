@@ -9,13 +9,14 @@ use Rattle.sha256.specs.Bytes.{numberAt}
 use Rattle.tree.specs.Setup.{Settings}
 use Rattle.tree.proofs.Cases.{not-both}
 use Rattle.user.specs.Asking.{refused}
-use Rattle.user.specs.Outcome.{State, Lent}
+use Rattle.server.specs.Serve.{noneEarlier}
+use Rattle.user.specs.Outcome.{noProgress, State, Lent}
 use Rattle.user_calls.specs.Calls.{taken}
-use Rattle.c_layout.specs.User.{keptOf, callOf}
-use Rattle.c_layout.specs.Server.{headOf}
+use Rattle.c_layout.specs.User.{progressOf, marksFit, keptOf, callOf}
+use Rattle.c_layout.specs.Server.{earlierOf, headOf}
 use Rattle.whole_run.specs.World.{dropped}
 use Rattle.whole_run.specs.Runs.{NewUser, NewServer, newUser, newHead}
-use Rattle.fork_bound.proofs.UserSteps.{stray}
+use Rattle.fork_bound.proofs.Events.{stray}
 use Rattle.c_runs.specs.Bytes.{UserBytes, userOf, cleared, callDropped, NewBytes, newUserBytes, newServerBytes}
 use Rattle.c_runs.proofs.Users.{Laid}
 use Rattle.c_runs.proofs.Servers.{HeadSmall}
@@ -34,17 +35,21 @@ abbrev pub zeroServer : NewBytes → ℕ → NewServer
 zeroServer b s = record { author = 0; digest = replicate 32 0; store = b .store s; digest-size = length-replicate {A = ℕ} 32 0 }
 
 pub user-zero : (b : NewBytes) (a : ℕ) → userOf (newUserBytes b a) ≡ newUser (zeroUser b a)
-unfolding userOf newUserBytes newUser keptOf numberAt
+unfolding userOf newUserBytes newUser keptOf marksFit progressOf noProgress numberAt
 user-zero b a = refl
 
 pub head-zero : (b : NewBytes) (s : ℕ) → headOf (newServerBytes b s .head) ≡ newHead (zeroServer b s)
-unfolding headOf newServerBytes newHead numberAt
+unfolding headOf earlierOf newServerBytes newHead noneEarlier numberAt
 head-zero b s = refl
 
 pub head-zero-small : (b : NewBytes) (s : ℕ) → HeadSmall (headOf (newServerBytes b s .head))
-unfolding newHead
+unfolding newHead noneEarlier
 head-zero-small b s =
-    subst HeadSmall (sym (head-zero b s)) (record { position = omega arith; level = omega arith; author = omega arith })
+    subst HeadSmall (sym (head-zero b s))
+    (record {
+      now = record { at = omega arith; low = omega arith; by = omega arith; size = length-replicate {A = ℕ} 32 0 };
+      before = record { at = omega arith; low = omega arith; by = omega arith; size = length-replicate {A = ℕ} 32 0 };
+    })
 
 -- zero bytes take no answer
 none-over : (s : Settings) (σ : State) (m : Lent) (a : List ℕ) → taken s σ m (callOf (replicate 82 0)) a .step .code ≡ 0 → ⊥
@@ -52,7 +57,7 @@ unfolding callOf taken refused
 none-over s σ m a = stray s σ m
 
 pub laid-zero : (s : Settings) (b : NewBytes) (a : ℕ) → Laid s (newUserBytes b a)
-unfolding newUserBytes keptOf numberAt
+unfolding newUserBytes keptOf marksFit numberAt
 laid-zero s b a =
     record {
       kept = record { digest = refl; version = omega arith; number = omega arith };

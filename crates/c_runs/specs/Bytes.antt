@@ -9,9 +9,9 @@ use Rattle.tree.specs.Setup.{Settings}
 use Rattle.user.specs.declared.call.Step.{Step}
 use Rattle.user.specs.declared.call.Found.{Found}
 use Rattle.user.specs.Outcome.{Key, keyOf, Lent, Outcome}
-use Rattle.user_calls.specs.Calls.{Call, idle, Input, startUpdate, startWrite, startRead, answer}
+use Rattle.user_calls.specs.Calls.{Call, idle, Input, startUpdate, startWrite, startRead, startGiveUp, answer}
 use Rattle.c_layout.specs.declared.using.Asked.{Asked}
-use Rattle.c_layout.specs.User.{UserLent, userLent, stateIn, lentIn, callOf, UserOutcome, updateBegun, writeBegun, readBegun, userAnswered}
+use Rattle.c_layout.specs.User.{UserLent, userLent, stateIn, lentIn, callOf, UserOutcome, updateBegun, writeBegun, readBegun, giveUpBegun, userAnswered}
 use Rattle.c_layout.specs.Server.{ServerOutcome}
 use Rattle.whole_run.specs.World.{Sent, noneOut, Reading, User, after}
 
@@ -42,26 +42,30 @@ outcomeOf o key =
     record { step = stepOf (o .result); found = found; state = stateIn l; call = callOf (l .call); lent = lentIn l key }
 
 -- A start's function changes buffers that it is lent. Those that it is not lent are as the caller has them, m being the memory for the new
--- call.
-unfoldable pub begun : UserLent → Lent → List ℕ → UserOutcome → UserOutcome
-begun b m held o =
+-- call. What is kept is changed by a give-up's start alone.
+unfoldable pub begun : UserLent → Lent → List ℕ → List ℕ → UserOutcome → UserOutcome
+begun b m kept held o =
     let l = o .lent in
-    record { result = o .result; lent = userLent (b .kept) (b .path) (b .signature) (l .call) (m .hashes) held (l .request) (m .entry) }
+    record { result = o .result; lent = userLent kept (b .path) (b .signature) (l .call) (m .hashes) held (l .request) (m .entry) }
 
 -- What the exported function for an input gives and leaves, and the key that is lent with it.
 unfoldable pub called : Settings → UserBytes → Input → UserOutcome
-called s u (startUpdate m) = let b = u .bytes in begun b m (m .held) (updateBegun s (b .kept) (b .call) (m .request))
-called s u (startWrite m entry randomizer) =
-    let b = u .bytes in
+called s u (startUpdate m) = let b = u .bytes in begun b m (b .kept) (m .held) (updateBegun s (b .kept) (b .call) (m .request))
+called s u (startWrite m entry randomizer) = let b = u .bytes in
     let o = writeBegun s (m .key .tree) entry randomizer (b .kept) (b .path) (b .call) (m .held) (m .request) in
-    begun b m (o .lent .held) o
-called s u (startRead m i) = let b = u .bytes in begun b m (m .held) (readBegun s i (b .kept) (b .call) (m .request) (m .entry))
+    begun b m (b .kept) (o .lent .held) o
+called s u (startRead m i) = let b = u .bytes in
+    begun b m (b .kept) (m .held) (readBegun s i (b .kept) (b .call) (m .request) (m .entry))
+called s u (startGiveUp m) = let b = u .bytes in
+    let o = giveUpBegun s (b .kept) (b .path) (b .call) (m .request) in
+    begun b m (o .lent .kept) (m .held) o
 called s u (answer a) = userAnswered s (u .bytes) (u .key) a
 
 unfoldable pub keyFor : UserBytes → Input → Key
 keyFor u (startUpdate m) = m .key
 keyFor u (startWrite m entry randomizer) = m .key
 keyFor u (startRead m i) = m .key
+keyFor u (startGiveUp m) = m .key
 keyFor u (answer a) = u .key
 
 -- The user after a call of a function, with what is noted of it. After a refusal the caller goes on with the bytes that it had: they are as
@@ -99,8 +103,8 @@ pub record NewBytes : Type 0 where
 
 unfoldable pub newUserBytes : NewBytes → ℕ → UserBytes
 newUserBytes b a =
-    let bytes = userLent (replicate 42 0) (b .path a) (b .signature a) (replicate 82 0) [] [] [] [] in
+    let bytes = userLent (replicate 46 0) (b .path a) (b .signature a) (replicate 82 0) [] [] [] [] in
     record { bytes = bytes; key = keyOf [] [] []; sent = noneOut; view = 0; reads = [] }
 
 unfoldable pub newServerBytes : NewBytes → ℕ → ServerBytes
-newServerBytes b s = record { head = replicate 39 0; store = b .store s; used = 0 }
+newServerBytes b s = record { head = replicate 79 0; store = b .store s; used = 0 }

@@ -3,9 +3,9 @@ use mathlib.Core.Path.{_≡_}
 use mathlib.Core.List.{List, [], _∷_}
 use Prim.Native.Nat.{_≤_}
 use lib.ListN.{length}
-use Rattle.user_calls.specs.Calls.{Input, startUpdate, startWrite, startRead, answer}
 use Rattle.whole_run.specs.World.{Setup}
-use Rattle.whole_run.specs.Runs.{Step, Fair}
+use Rattle.whole_run.specs.Runs.{Step, Sized}
+use Rattle.fork_bound.specs.Fair.{Fair}
 use Rattle.fork_bound.specs.Claim.{BoundHolds}
 use Rattle.honest_run.specs.Network.{HonestSetup, InRange, Act, calls}
 use Rattle.honest_run.specs.Claim.{CallsServe}
@@ -19,12 +19,6 @@ ByteForkBound =
     → (b : NewBytes) (xs : List Step) → Fair g (λ ys. worldOf (byteRun g b ys)) xs → BoundHolds g (worldOf (byteRun g b xs))
 
 -- "randomizer has 32 bytes" (include/kozbrax.h), in each call of the list.
-abbrev pub Sized : Input → Type 0
-Sized (startUpdate m) = Unit {0}
-Sized (startWrite m entry randomizer) = length randomizer ≡ 32
-Sized (startRead m i) = Unit {0}
-Sized (answer a) = Unit {0}
-
 unfoldable pub AllSized : List Act → Type 0
 AllSized [] = Unit {0}
 AllSized (calls a i k late ∷ xs) = Sized i × AllSized xs
