@@ -8,10 +8,10 @@ use Rattle.sha256.specs.Bytes.{be}
 use Rattle.sha256.proofs.Laws.{be-mod}
 use Rattle.user.specs.Outcome.{keyOf}
 use Rattle.c_layout.specs.declared.using.Asked.{Asked}
-use Rattle.c_layout.specs.User.{UserLent, updateBegun, readBegun, writeBegun, userAnswered, Begins, WriteBegins, UserYields}
+use Rattle.c_layout.specs.User.{UserLent, updateBegun, readBegun, writeBegun, giveUpBegun, userAnswered, Begins, WriteBegins, GiveUpBegins, UserYields}
 use Rattle.exchange.specs.declared.buffers.Buffers.{Buffers}
 use Rattle.exchange.specs.declared.user_place.Settings.{Settings}
-use Rattle.exchange.specs.UserStep.{groupOf, startLeft, updateMade, readMade, writeMade, lentBy, answerLeft, answerMade, stepBytes}
+use Rattle.exchange.specs.UserStep.{groupOf, startLeft, updateMade, readMade, writeMade, keptWith, giveUpMade, lentBy, answerLeft, answerMade, stepBytes}
 
 -- a number's two bytes
 pub be-two-mod : (n : ℕ) → be 2 (n % 65536) ≡ be 2 n
@@ -53,6 +53,12 @@ module _ (s : Settings) (users : List ℕ) (n : ℕ) (b : Buffers) (r : Asked) (
       → startLeft r b call held (part ++ drop (n - 0) (b .request)) ≡ writeMade s users tree n entry b
   unfolding writeMade
   write-left tree entry held e = rw (e .0 .0, e .0 .1 .0, e .0 .1 .1, e .1, from-zero n)
+
+  pub give-up-left : (kept : List ℕ)
+      → GiveUpBegins (giveUpBegun (groupOf s users) (b .kept) (b .path) (b .call) (take (n - 0) (b .request))) r kept call part
+      → startLeft r (keptWith kept b) call (b .held) (part ++ drop (n - 0) (b .request)) ≡ giveUpMade s users n b
+  unfolding giveUpMade
+  give-up-left kept e = rw (e .0 .0, e .0 .1 .0, e .0 .1 .1, e .1, from-zero n)
 
 -- an answer that is taken in, with the first k bytes of the entry buffer
 pub answer-left : (s : Settings) (users tree : List ℕ) (n k : ℕ) (answer : List ℕ) (b : Buffers) (r : Asked) (l : UserLent)

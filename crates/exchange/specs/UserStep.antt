@@ -12,36 +12,36 @@ use Rattle.programs.specs.Key.{treeAt}
 use Rattle.user.specs.Outcome.{keyOf}
 use Rattle.c_layout.specs.declared.using.Asked.{Asked}
 use Rattle.c_layout.specs.declared.using.SettledAnswer.{SettledAnswer}
-use Rattle.c_layout.specs.User.{UserLent, userLent, updateBegun, readBegun, writeBegun, userAnswered, settledAnswer}
+use Rattle.c_layout.specs.User.{UserLent, userLent, updateBegun, readBegun, writeBegun, giveUpBegun, userAnswered, settledAnswer}
 use Rattle.exchange.specs.declared.buffers.Buffers.{Buffers}
 use Rattle.exchange.specs.declared.user_place.Settings.{Settings}
 use Rattle.exchange.specs.declared.user_step.Left.{Left}
-use Rattle.exchange.specs.UserPlace.{loaded}
+use Rattle.exchange.specs.UserPlace.{loaded, callAt, stepAt, askedAt, pathAt, signatureAt, hashesAt, heldAt, requestAt, entryAt}
 use Rattle.exchange.specs.LogName.{logName}
 
 -- What is kept, and all buffers of a place. Where a place is too short for one, it is zeros.
 unfoldable pub keptIn : List ℕ → List ℕ
-keptIn place = loaded place 0 (zeros 42)
+keptIn place = loaded place 0 (zeros 46)
 
 unfoldable pub buffersIn : List ℕ → Buffers
 buffersIn place =
     record {
       kept = keptIn place;
-      path = loaded place 150 (zeros 672);
-      signature = loaded place 822 (zeros 2508);
-      call = loaded place 42 (zeros 82);
-      hashes = loaded place 3330 (zeros 1248);
-      held = loaded place 4578 (zeros 1026);
-      request = loaded place 5604 (zeros 2566);
-      entry = loaded place 8170 (zeros 1024);
+      path = loaded place pathAt (zeros 672);
+      signature = loaded place signatureAt (zeros 2508);
+      call = loaded place callAt (zeros 82);
+      hashes = loaded place hashesAt (zeros 1248);
+      held = loaded place heldAt (zeros 1026);
+      request = loaded place requestAt (zeros 2566);
+      entry = loaded place entryAt (zeros 1024);
     }
 
 -- The place with the buffers: what is kept, the call, the path and the signature; then the others.
 unfoldable pub stateLaid : Buffers → List ℕ → List ℕ
-stateLaid b place = written (written place 0 (b .kept ++ b .call)) 150 (b .path ++ b .signature)
+stateLaid b place = written (written place 0 (b .kept ++ b .call)) pathAt (b .path ++ b .signature)
 
 unfoldable pub memoryLaid : Buffers → List ℕ → List ℕ
-memoryLaid b place = written (written (written place 3330 (b .hashes ++ b .held)) 5604 (b .request)) 8170 (b .entry)
+memoryLaid b place = written (written (written place hashesAt (b .hashes ++ b .held)) requestAt (b .request)) entryAt (b .entry)
 
 -- N, the own number, the log's name and the user list that is lent.
 abbrev pub groupOf : Settings → List ℕ → Group
@@ -96,6 +96,17 @@ writeMade s users tree n entry b =
     let o = writeBegun (groupOf s users) tree entry randomizer (b .kept) (b .path) (b .call) (b .held) (take n (b .request)) in
     startLeft (o .result) b (o .lent .call) (o .lent .held) (o .lent .request ++ drop n (b .request))
 
+-- The buffers with another kept state.
+unfoldable pub keptWith : List ℕ → Buffers → Buffers
+keptWith kept b =
+    buffersOf (userLent kept (b .path) (b .signature) (b .call) (b .hashes) (b .held) (b .request) (b .entry))
+
+-- The start of a give-up, which is kept once it has begun.
+unfoldable pub giveUpMade : Settings → List ℕ → ℕ → Buffers → Left
+giveUpMade s users n b =
+    let o = giveUpBegun (groupOf s users) (b .kept) (b .path) (b .call) (take n (b .request)) in
+    startLeft (o .result) (keptWith (o .lent .kept) b) (o .lent .call) (b .held) (o .lent .request ++ drop n (b .request))
+
 -- What an answer is taken in with: n bytes of the request buffer and k of the entry buffer.
 unfoldable pub lentBy : ℕ → ℕ → Buffers → UserLent
 lentBy n k b =
@@ -117,28 +128,30 @@ answerMade s users tree n k answer b =
     let o = userAnswered (groupOf s users) (lentBy n k b) key answer in
     answerLeft n k b (o .result) (o .lent)
 
--- Kind 0 takes in an answer; 1 starts an Update, 3 a Read, any other a Write.
+-- Kind 0 takes in an answer; 1 starts an Update, 3 a Read, 4 a give-up, any other a Write.
 unfoldable pub stepMade : Settings → List ℕ → List ℕ → Buffers → Left
 stepMade s keys input b =
     let users = take (s .users) keys in
     let tree = treeLent s keys in
     let n = room s in
     cond (eqb (s .kind) 0) (answerMade s users tree n (size s) input b)
-    (cond (eqb (s .kind) 1) (updateMade s users n b) (cond (eqb (s .kind) 3) (readMade s users n b) (writeMade s users tree n input b)))
+    (cond (eqb (s .kind) 1) (updateMade s users n b)
+    (cond (eqb (s .kind) 3) (readMade s users n b)
+    (cond (eqb (s .kind) 4) (giveUpMade s users n b) (writeMade s users tree n input b))))
 
 -- The kind of the start that came last, where a step of a kind comes now.
 unfoldable pub lastStart : ℕ → List ℕ → ℕ
-lastStart kind place = cond (eqb kind 0) (getD place 124 0) kind
+lastStart kind place = cond (eqb kind 0) (getD place stepAt 0) kind
 
--- The last step at 124: the start, the code and the server's, whether the call has ended, the author and the length of the entry.
+-- The last step: the start, the code and the server's, whether the call has ended, the author and the length of the entry.
 unfoldable pub stepBytes : ℕ → Asked → List ℕ
 stepBytes last a = last ∷ a .code % 256 ∷ a .refusal % 256 ∷ a .ended % 256 ∷ (be 2 (a .author) ++ be 2 (a .entry))
 
--- The place with it. A call that has ended leaves the server and the length of its last request, which stand at 132.
+-- The place with it. A call that has ended leaves the server and the length of its last request, which stand behind it.
 unfoldable pub stepLaid : ℕ → Asked → List ℕ → List ℕ
 stepLaid kind a place =
-    let laid = written place 124 (stepBytes (lastStart kind place) a) in
-    cond (eqb (a .ended % 256) 0) (written laid 132 (a .server % 256 ∷ be 2 (a .length))) laid
+    let laid = written place stepAt (stepBytes (lastStart kind place) a) in
+    cond (eqb (a .ended % 256) 0) (written laid askedAt (a .server % 256 ∷ be 2 (a .length))) laid
 
 -- The place after a step.
 unfoldable pub stepOn : Settings → List ℕ → List ℕ → List ℕ → List ℕ

@@ -7,7 +7,7 @@ use sha256::bytes;
 pub struct Buffers {
     pub request: [u8; 2566],
     pub entry: [u8; 1024],
-    pub kept: [u8; 42],
+    pub kept: [u8; 46],
     pub path: [u8; 672],
     pub signature: [u8; 2508],
     pub call: [u8; 82],
@@ -16,10 +16,10 @@ pub struct Buffers {
 }
 
 // What is kept.
-pub fn kept_of(place: &[u8]) -> [u8; 42]
+pub fn kept_of(place: &[u8]) -> [u8; 46]
     ensures { λ r. ⌜ r ≡ keptIn (now (place .entry)) ⌝ }
 {
-    let mut kept = [0u8; 42];
+    let mut kept = [0u8; 46];
     user_place::load(place, 0, &mut kept);
     kept
 }

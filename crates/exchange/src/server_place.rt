@@ -1,5 +1,5 @@
-// A server's place: the head from its first byte on, position, level, a byte that is 0, author and digest; the store's used length; then
-// the store.
+// A server's place: the head from its first byte on as `c_layout` has it, position, level, author, digest and the earlier head; the store's
+// used length; then the store.
 ghost use mathlib.Core.Path.{_≡_};
 ghost use Prim.Native.Nat.{_≤_};
 ghost use lib.ListN.{length};
@@ -11,31 +11,34 @@ use sha256::bytes;
 
 pub const LEVEL: usize = 4;
 
-pub const AUTHOR: usize = 6;
+pub const AUTHOR: usize = 5;
 
-pub const DIGEST: usize = 8;
+pub const DIGEST: usize = 7;
 
-pub const USED: usize = 40;
+// Whether an earlier head is known, and that head, laid out like the other one.
+pub const KNOWN: usize = 39;
 
-pub const STORE: usize = 48;
+pub const EARLIER: usize = 40;
 
-// The head as `c_layout` has it.
-fn head_of(place: &[u8]) -> [u8; 39]
-    requires { ⌜ 48 ≤ length (now place) ⌝ }
+pub const USED: usize = 80;
+
+pub const STORE: usize = 88;
+
+// The head.
+fn head_of(place: &[u8]) -> [u8; 79]
+    requires { ⌜ 88 ≤ length (now place) ⌝ }
     ensures { λ r. ⌜ r ≡ headIn (now (place .entry)) ⌝ }
 {
-    let mut head = [0u8; 39];
-    let rest = bytes::front(bytes::from(place, AUTHOR), 34);
-    bytes::put2(&mut head, 0, bytes::front(place, 5), rest);
+    let mut head = [0u8; 79];
+    bytes::put(&mut head, 0, bytes::front(place, 79));
     head
 }
 
 // Lays the head and the used length.
-fn keep(head: &[u8; 39], used: u64, place: &mut [u8])
+fn keep(head: &[u8; 79], used: u64, place: &mut [u8])
     ensures { λ _. ⌜ now (place .exit) ≡ headLaid (now (head .entry)) used (now (place .entry)) ⌝ }
 {
-    bytes::put(place, 0, bytes::front(head, 5));
-    bytes::put(place, AUTHOR, bytes::from(head, 5));
+    bytes::put(place, 0, head);
     bytes::put(place, USED, &bytes::be4((used % 4294967296) as u32));
 }
 

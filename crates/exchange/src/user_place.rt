@@ -1,4 +1,4 @@
-// A user's place of 9,194 bytes: what is kept in the first 42 and the call that goes on in the next 82, as `c_layout` has them; the last
+// A user's place of 9,198 bytes: what is kept in the first 46 and the call that goes on in the next 82, as `c_layout` has them; the last
 // step; then the buffers that are lent.
 ghost use mathlib.Core.Path.{_≡_};
 ghost use Rattle.exchange.specs.UserPlace.{loaded, requestOf, entryOf, hasEnded, forgotten};
@@ -12,7 +12,8 @@ use c_layout::using::SettledAnswer;
 use programs::key;
 use sha256::bytes;
 
-// What is kept, from the place's first byte on: version, digest, number, and whether a write is open and signed.
+// What is kept, from the place's first byte on: version, digest, number, and whether a write is open and signed; of an open write the
+// levels that a Reserve was handed out for, whether its PutOperation was, whether a give-up has begun, and the last server that is done.
 pub const DIGEST: usize = 4;
 
 pub const NUMBER: usize = 36;
@@ -21,40 +22,48 @@ pub const OPENED: usize = 40;
 
 pub const SIGNED: usize = 41;
 
-pub const CALL: usize = 42;
+pub const LEVELS: usize = 42;
 
-// The last step: which start came last (1 Update, 2 Write, 3 Read), the code and the server's, whether the call has ended, the author and
-// the length of the entry that a Read found; and the server that was asked last, with the length of the request.
-pub const KIND: usize = 124;
+pub const PUT: usize = 43;
 
-pub const CODE: usize = 125;
+pub const BEGUN: usize = 44;
 
-pub const REFUSAL: usize = 126;
+pub const DONE: usize = 45;
 
-pub const ENDED: usize = 127;
+pub const CALL: usize = 46;
 
-pub const AUTHOR: usize = 128;
+// The last step: which start came last (1 Update, 2 Write, 3 Read, 4 give-up), the code and the server's, whether the call has ended, the
+// author and the length of the entry that a Read found; and the server that was asked last, with the length of the request.
+pub const KIND: usize = 128;
 
-pub const LENGTH: usize = 130;
+pub const CODE: usize = 129;
 
-pub const SERVER: usize = 132;
+pub const REFUSAL: usize = 130;
+
+pub const ENDED: usize = 131;
+
+pub const AUTHOR: usize = 132;
+
+pub const LENGTH: usize = 134;
+
+pub const SERVER: usize = 136;
 
 // The buffers.
-pub const PATH: usize = 150;
+pub const PATH: usize = 154;
 
-pub const SIGNATURE: usize = 822;
+pub const SIGNATURE: usize = 826;
 
-pub const HASHES: usize = 3330;
+pub const HASHES: usize = 3334;
 
-pub const HELD: usize = 4578;
+pub const HELD: usize = 4582;
 
-pub const REQUEST: usize = 5604;
+pub const REQUEST: usize = 5608;
 
-pub const ENTRY: usize = 8170;
+pub const ENTRY: usize = 8174;
 
-// What a step is made with: N, the own number, the kind (1 starts an Update, 2 a Write, 3 a Read; 0 takes in an answer), a number (of a
-// Write the byte that its randomizer repeats, of a Read the position), and how many bytes of the user list, the key tree, the request
-// buffer and the entry buffer are lent.
+// What a step is made with: N, the own number, the kind (1 starts an Update, 2 a Write, 3 a Read, 4 a give-up; 0 takes in an answer), a
+// number (of a Write the byte that its randomizer repeats, of a Read the position), and how many bytes of the user list, the key tree, the
+// request buffer and the entry buffer are lent.
 pub struct Settings {
     pub servers: u32,
     pub own: u32,

@@ -2,7 +2,7 @@
 ghost use mathlib.Core.Path.{_≡_};
 ghost use Prim.Native.Nat.{_≤_};
 ghost use lib.ListN.{length};
-ghost use Rattle.exchange.specs.UserStep.{treeLent, startLeft, updateMade, readMade, writeMade, answerMade, stepMade};
+ghost use Rattle.exchange.specs.UserStep.{treeLent, startLeft, updateMade, readMade, writeMade, giveUpMade, answerMade, stepMade};
 use crate::buffers::Buffers;
 use crate::user_place::Settings;
 use c_layout::taking;
@@ -18,7 +18,7 @@ pub struct Left {
     pub buffers: Buffers,
 }
 
-// The step: kind 0 takes in an answer; 1 starts an Update, 3 a Read, any other a Write.
+// The step: kind 0 takes in an answer; 1 starts an Update, 3 a Read, 4 a give-up, any other a Write.
 pub fn made(s: Settings, keys: &[u8], input: &[u8], b: Buffers) -> Left
     ensures { λ r. ⌜ r ≡ stepMade s (now (keys .entry)) (now (input .entry)) b ⌝ }
 {
@@ -33,6 +33,9 @@ pub fn made(s: Settings, keys: &[u8], input: &[u8], b: Buffers) -> Left
     }
     if s.kind == 3 {
         return read_made(s, users, room, b);
+    }
+    if s.kind == 4 {
+        return give_up_made(s, users, room, b);
     }
     write_made(s, users, tree_lent(s, keys), room, input, b)
 }
@@ -128,6 +131,32 @@ fn write_made(s: Settings, users: &[u8], tree: &[u8], room: usize, entry: &[u8],
         &mut request[0..room],
     );
     start_left(asked, b, call, held, request)
+}
+
+// The start of a give-up, or of its repeat.
+fn give_up_made(s: Settings, users: &[u8], room: usize, b: Buffers) -> Left
+    requires { ⌜ room ≤ length (b .request) ⌝ }
+    ensures { λ r. ⌜ r ≡ giveUpMade s (now (users .entry)) room b ⌝ }
+{
+    let log = key::LOG;
+    let mut kept = b.kept;
+    let path = b.path;
+    let mut call = b.call;
+    let held = b.held;
+    let mut request = b.request;
+    let asked = using::give_up_start(
+        s.servers,
+        s.own,
+        &log,
+        users,
+        &mut kept,
+        &path,
+        &mut call,
+        &mut request[0..room],
+    );
+    let mut begun = b;
+    begun.kept = kept;
+    start_left(asked, begun, call, held, request)
 }
 
 // The part of the own key tree that is lent.

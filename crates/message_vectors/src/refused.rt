@@ -1,4 +1,4 @@
-// Requests beside the honest run, most of them refused: at least one for each code 1 to 9. Each line of data/cases.txt is one, and
+// Requests beside the honest run, most of them refused: at least one for each code 1 to 9 and 27. Each line of data/cases.txt is one, and
 // data/README.md says what its numbers mean; it counts them from 1, the code from 0.
 ghost use Prim.Native.Nat.{_≤_};
 use crate::call;

@@ -11,7 +11,7 @@ use sha256::bytes;
 
 pub const SERVERS: u8 = 4;
 
-// How many bytes a server's place has; its store takes all behind the first 48.
+// How many bytes a server's place has; its store takes all behind the first 88.
 pub const PLACE: usize = 8192;
 
 const KEYS: usize = 65536;
@@ -51,13 +51,10 @@ pub fn stored_from(server: u8, from: usize, world: &[u8]) -> &[u8] {
     bytes::from(bytes::front(store, used(server, world)), from)
 }
 
-// A server's head, as position, level, author and digest, and how many bytes of its store are used.
+// A server's head, as position, level, author and digest, its earlier head after a mark, and how many bytes of its store are used.
 pub fn print_server(server: u8, world: &[u8]) {
     let place = bytes::from(world, server_at(server));
-    let mut head = [0u8; 39];
-    let rest = bytes::front(bytes::from(place, server_place::AUTHOR), 34);
-    bytes::put2(&mut head, 0, bytes::front(place, 5), rest);
-    hex::line(b"head ", &head);
+    hex::line(b"head ", bytes::front(place, 79));
     print::number(b"used ", used(server, world));
     print::text(b"\n");
 }

@@ -18,15 +18,15 @@ row word numbers least most rest =
       rest = rest;
     }
 
--- "cut U K TEXT: .. K of its requests, 0 to 98, are answered".
-unfoldable pub cutRow : Form
-cutRow =
+-- "cut U K TEXT: .. K of its requests, 0 to 98, are answered", and the same of a give-up.
+unfoldable pub cutRow : Word → Rest → Form
+cutRow word rest =
     record {
-      word = Word.Cut;
+      word = word;
       numbers = 2;
       first = record { least = 1; most = 3 };
       second = record { least = 0; most = 98 };
-      rest = Rest.Text;
+      rest = rest;
     }
 
 -- `fire`, `report`, `warm` and `begin`, in the bytes of their letters. A word that is none of the commands' takes no number.
@@ -38,6 +38,13 @@ kilnFormOf s =
     (cond (eqs s (98 ∷ 101 ∷ 103 ∷ 105 ∷ 110 ∷ [])) (row Word.Begin 3 1 3 Rest.Minutes)
     (row Word.Unknown 0 1 3 Rest.Nothing))))
 
+-- `give-up` and `cut-give-up`.
+unfoldable pub givingFormOf : List ℕ → Form
+givingFormOf s =
+    cond (eqs s (103 ∷ 105 ∷ 118 ∷ 101 ∷ 45 ∷ 117 ∷ 112 ∷ [])) (row Word.GiveUp 1 1 3 Rest.Nothing)
+    (cond (eqs s (99 ∷ 117 ∷ 116 ∷ 45 ∷ 103 ∷ 105 ∷ 118 ∷ 101 ∷ 45 ∷ 117 ∷ 112 ∷ [])) (cutRow Word.CutGiveUp Rest.Nothing)
+    (kilnFormOf s))
+
 -- `update`, `board`, `strike`, `read` and `settled`.
 unfoldable pub readingFormOf : List ℕ → Form
 readingFormOf s =
@@ -46,7 +53,7 @@ readingFormOf s =
     (cond (eqs s (115 ∷ 116 ∷ 114 ∷ 105 ∷ 107 ∷ 101 ∷ [])) (row Word.Strike 2 1 3 Rest.Nothing)
     (cond (eqs s (114 ∷ 101 ∷ 97 ∷ 100 ∷ [])) (row Word.Read 2 1 3 Rest.Nothing)
     (cond (eqs s (115 ∷ 101 ∷ 116 ∷ 116 ∷ 108 ∷ 101 ∷ 100 ∷ [])) (row Word.Settled 2 1 3 Rest.Nothing)
-    (kilnFormOf s)))))
+    (givingFormOf s)))))
 
 -- `servers` and `fork`, whose number counts servers, and `write`, `cut` and `resume`, which take a text.
 unfoldable pub formOf : List ℕ → ℕ → Form
@@ -54,6 +61,6 @@ formOf s servers =
     cond (eqs s (115 ∷ 101 ∷ 114 ∷ 118 ∷ 101 ∷ 114 ∷ 115 ∷ [])) (row Word.Servers 1 2 16 Rest.Nothing)
     (cond (eqs s (102 ∷ 111 ∷ 114 ∷ 107 ∷ [])) (row Word.Fork 1 1 servers Rest.Nothing)
     (cond (eqs s (119 ∷ 114 ∷ 105 ∷ 116 ∷ 101 ∷ [])) (row Word.Write 1 1 3 Rest.Text)
-    (cond (eqs s (99 ∷ 117 ∷ 116 ∷ [])) cutRow
+    (cond (eqs s (99 ∷ 117 ∷ 116 ∷ [])) (cutRow Word.Cut Rest.Text)
     (cond (eqs s (114 ∷ 101 ∷ 115 ∷ 117 ∷ 109 ∷ 101 ∷ [])) (row Word.Resume 1 1 3 Rest.Text)
     (readingFormOf s)))))

@@ -2,7 +2,7 @@
 ghost use mathlib.Core.Bool.{cond};
 ghost use mathlib.Core.Path.{_≡_};
 ghost use Rattle.sha256.specs.Bytes.{eqs};
-ghost use Rattle.script.specs.Form.{row, cutRow, formOf, readingFormOf, kilnFormOf};
+ghost use Rattle.script.specs.Form.{row, cutRow, formOf, readingFormOf, givingFormOf, kilnFormOf};
 use crate::Word;
 use crate::number::Range;
 use sha256::bytes;
@@ -48,16 +48,16 @@ fn user(word: Word, numbers: u8, rest: Rest) -> Form
     row(word, numbers, 1, 3, rest)
 }
 
-// A write that is cut: its second number says after how many answers.
-fn cut() -> Form
-    ensures { λ r. ⌜ r ≡ cutRow ⌝ }
+// A call that is cut: its second number says after how many answers.
+fn cut(word: Word, rest: Rest) -> Form
+    ensures { λ r. ⌜ r ≡ cutRow word rest ⌝ }
 {
     Form {
-        word: Word::Cut,
+        word,
         numbers: 2,
         first: Range { least: 1, most: 3 },
         second: Range { least: 0, most: 98 },
-        rest: Rest::Text,
+        rest,
     }
 }
 
@@ -80,7 +80,7 @@ pub fn of_word(s: &[u8], servers: u8) -> Form
     let one = row(Word::Fork, 1, 1, servers as u32, Rest::Nothing);
     let a = of_reading_word(s);
     let b = named(s, b"resume", user(Word::Resume, 1, Rest::Text), a);
-    let c = named(s, b"cut", cut(), b);
+    let c = named(s, b"cut", cut(Word::Cut, Rest::Text), b);
     let d = named(s, b"write", user(Word::Write, 1, Rest::Text), c);
     let e = named(s, b"fork", one, d);
     named(s, b"servers", all, e)
@@ -90,12 +90,23 @@ pub fn of_word(s: &[u8], servers: u8) -> Form
 fn of_reading_word(s: &[u8]) -> Form
     ensures { λ r. ⌜ r ≡ readingFormOf (now (s .entry)) ⌝ }
 {
-    let a = of_kiln_word(s);
+    let a = of_giving_word(s);
     let b = named(s, b"settled", user(Word::Settled, 2, Rest::Nothing), a);
     let c = named(s, b"read", user(Word::Read, 2, Rest::Nothing), b);
     let d = named(s, b"strike", user(Word::Strike, 2, Rest::Nothing), c);
     let e = named(s, b"board", user(Word::Board, 1, Rest::Nothing), d);
     named(s, b"update", user(Word::Update, 1, Rest::Nothing), e)
+}
+
+// The commands that give an open write up, to the end or for some answers.
+fn of_giving_word(s: &[u8]) -> Form
+    ensures { λ r. ⌜ r ≡ givingFormOf (now (s .entry)) ⌝ }
+{
+    let all = user(Word::GiveUp, 1, Rest::Nothing);
+    let some = cut(Word::CutGiveUp, Rest::Nothing);
+    let a = of_kiln_word(s);
+    let b = named(s, b"cut-give-up", some, a);
+    named(s, b"give-up", all, b)
 }
 
 // The commands for schedules. Any other word is unknown, and takes no number.

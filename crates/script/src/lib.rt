@@ -28,6 +28,8 @@ pub enum Word {
     Settled,
     Cut,
     Resume,
+    GiveUp,
+    CutGiveUp,
     Fork,
     Fire,
     Report,

@@ -1,4 +1,4 @@
-// One call of the server on a place of 8,192 bytes.
+// One call of the server on a place of 8,232 bytes.
 ghost use mathlib.Core.Path.{_≡_};
 ghost use lib.ListN.{length};
 use c_layout::serving::Served;
@@ -29,10 +29,10 @@ pub fn usual(own: u32, request: u32, place: &[u8]) -> [u32; 12] {
 
 // The call with these settings. What it leaves is printed, and is in the place.
 pub fn serve(s: [u32; 12], keys: &[u8], place: &mut [u8], request: &[u8])
-    requires { ⌜ length (now place) ≡ 8192 ⌝ }
+    requires { ⌜ length (now place) ≡ 8232 ⌝ }
 {
     lay(s, place);
-    let end = 48 + line::at_most(s[8], 8144);
+    let end = server_place::STORE + line::at_most(s[8], 8144);
     let room = line::at_most(s[10], 2552);
     let mut answer = [0u8; 2552];
     lent(
@@ -44,7 +44,7 @@ pub fn serve(s: [u32; 12], keys: &[u8], place: &mut [u8], request: &[u8])
     );
 }
 
-// Lays the head and the used length of the settings; the digest is the place's.
+// Lays the head and the used length of the settings; the digest and the earlier head are the place's.
 fn lay(s: [u32; 12], place: &mut [u8]) {
     let author = bytes::be2((s[6] % 65536) as u16);
     bytes::put2(place, 0, &bytes::be4(s[4]), &[(s[5] % 256) as u8]);
@@ -62,7 +62,8 @@ fn lent(s: [u32; 12], keys: &[u8], place: &mut [u8], request: &[u8], answer: &mu
 // What a call gave, and the place and the answer buffer that it left, to the line's end.
 fn report(out: Served, place: &[u8], answer: &[u8]) {
     print::number(b": code ", out.code as usize);
-    report_head(place);
+    report_head(b" head # # # ", place);
+    report_earlier(place);
     print::number(b" used ", out.used as usize);
     print::number(b" answered ", out.answer as usize);
     print::figures(
@@ -74,13 +75,25 @@ fn report(out: Served, place: &[u8], answer: &[u8]) {
 }
 
 // A head: position, level, author and digest.
-fn report_head(place: &[u8]) {
-    let level = bytes::byte_at(place, server_place::LEVEL);
-    let author = bytes::u16_at(place, server_place::AUTHOR);
-    let position = bytes::u32_at(place, 0);
-    print::filled(b" head # # # ", &[position, level as u32, author as u32]);
+fn report_head(what: &[u8], head: &[u8]) {
+    let level = bytes::byte_at(head, server_place::LEVEL);
+    let author = bytes::u16_at(head, server_place::AUTHOR);
+    let position = bytes::u32_at(head, 0);
+    print::filled(what, &[position, level as u32, author as u32]);
     print::figures(
         b"",
-        digest::piece(bytes::from(place, server_place::DIGEST), 0),
+        digest::piece(bytes::from(head, server_place::DIGEST), 0),
+    );
+}
+
+// The earlier head, where one is known.
+fn report_earlier(place: &[u8]) {
+    if bytes::byte_at(place, server_place::KNOWN) == 0 {
+        print::text(b" no earlier");
+        return;
+    }
+    report_head(
+        b" earlier # # # ",
+        bytes::from(place, server_place::EARLIER),
     );
 }

@@ -4,6 +4,7 @@ ghost use mathlib.Core.Path.{_≡_};
 ghost use lib.ListN.{length};
 use crate::call;
 use crate::user;
+use exchange::server_place;
 use programs::line;
 use programs::print;
 use sha256::bytes;
@@ -12,10 +13,11 @@ use sha256::bytes;
 pub fn run(text: &[u8], world: &mut [u8], keys: &[u8]) {
     let n = lines::find(text, b':');
     let f = line::numbers(bytes::from(bytes::from(text, n), 2));
-    let at = (f[0] % 8) as usize * 8192;
-    let mut place = [0u8; 8192];
-    bytes::put(&mut place, 0, bytes::front(bytes::from(world, at), 8192));
-    line::patch(&mut place, 3000, 48, f[10], f[11]);
+    let at = (f[0] % 8) as usize * 8232;
+    let mut place = [0u8; 8232];
+    bytes::put(&mut place, 0, bytes::front(bytes::from(world, at), 8232));
+    line::patch(&mut place, 3000, server_place::STORE as u8, f[10], f[11]);
+    line::patch(&mut place, 6000, 0, f[10], f[11]);
     print::text(bytes::front(text, n));
     made(f, &mut place, keys);
     if f[1] == 1 {
@@ -25,7 +27,7 @@ pub fn run(text: &[u8], world: &mut [u8], keys: &[u8]) {
 
 // The call of a line on a server's place, with the changes that the line names.
 fn made(f: [u32; 16], place: &mut [u8], keys: &[u8])
-    requires { ⌜ length (now place) ≡ 8192 ⌝ }
+    requires { ⌜ length (now place) ≡ 8232 ⌝ }
 {
     let mut request = [0u8; 2600];
     let n = user::request(f, keys, &mut request);

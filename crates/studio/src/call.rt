@@ -98,6 +98,12 @@ pub fn write(g: Group, own: u8, entry: &[u8], most: u32, world: &mut [u8]) -> u3
     answers(g, own, most, world)
 }
 
+// A give-up of the open write, or its repeat, for at most `most` answers.
+pub fn give_up(g: Group, own: u8, most: u32, world: &mut [u8]) -> u32 {
+    step(settings(g, own, 4, 0), b"", world);
+    answers(g, own, most, world)
+}
+
 // A Read of a position, to its end. The entry is in the place's entry buffer where the code is 0.
 pub fn read(g: Group, own: u8, position: u32, world: &mut [u8]) -> u32 {
     step(settings(g, own, 3, position), b"", world);

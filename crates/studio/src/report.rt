@@ -110,6 +110,23 @@ pub fn cut(place: &[u8]) {
     print::filled(b" is lost; the write is open at position #\n", &[position]);
 }
 
+// How far a give-up has come that was not refused: it waits for an answer that does not come, or the write is closed.
+pub fn given_up(place: &[u8]) {
+    if bytes::byte_at(place, user_place::CODE) != 0 {
+        return;
+    }
+    if user_place::ended(place) {
+        print::text(b"  the write is closed\n");
+        return;
+    }
+    let server = bytes::byte_at(place, user_place::SERVER);
+    let done = bytes::byte_at(place, user_place::DONE);
+    print::filled(
+        b"  the request to server # is lost; the give-up has begun, and the last server that is done has number #\n",
+        &[server as u32, done as u32],
+    );
+}
+
 // The position after v.
 pub fn next(v: u32) -> u32 {
     if v < 1048576 {

@@ -56,6 +56,8 @@ fn act(c: Command, line: &[u8], g: Group, world: &mut [u8]) {
         Word::Settled => settled(g, own, c.second, world),
         Word::Strike => strike(g, own, c.second, world),
         Word::Fire => fire(g, own, rest, world),
+        Word::GiveUp => give_up(g, own, 99, world),
+        Word::CutGiveUp => give_up(g, own, c.second, world),
         _ => write(c, rest, g, world),
     }
 }
@@ -65,6 +67,16 @@ fn update(g: Group, own: u8, world: &mut [u8]) {
     let answers = call::update(g, own, world);
     report::call(place::of(own, world), answers);
     fork::after(g, own, open_before, world);
+}
+
+// A give-up of the open write. No server that follows the rules refuses one but with 27, which ends it like 0.
+fn give_up(g: Group, own: u8, most: u32, world: &mut [u8]) {
+    let answers = call::give_up(g, own, most, world);
+    let place = place::of(own, world);
+    report::call(place, answers);
+    report::given_up(place);
+    let operation = report::next(world::version(own, world));
+    fork::notice(g, own, operation, false, world);
 }
 
 // Reads a position, and prints the entry there or what is reported of its firing, with the windows that a text lists.

@@ -76,7 +76,7 @@ pub fn begin(world: &mut [u8]) {
 fn begin_user(own: u8, world: &mut [u8]) {
     let at = place::at(own);
     bytes::put(world, at, &[0u8; 36]);
-    bytes::put(world, at + user_place::OPENED, &[0u8; 2]);
+    bytes::put(world, at + user_place::OPENED, &[0u8; 6]);
 }
 
 fn begin_servers(world: &mut [u8]) {

@@ -1,6 +1,6 @@
 // Document 01's user cases: an honest run of two users on four servers, each code of the user's table and the ends of its ranges, calls
-// that go on after a refusal, and a Write that is cut after each of its answers and resumed. Each line of data/cases.txt is one step or a
-// run of answers, and data/README.md says what its numbers mean. What is printed is said there too.
+// that go on after a refusal, a Write that is cut after each of its answers and resumed; and writes that are given up (document 02, e).
+// Each line of data/cases.txt is one step or a run of answers. data/README.md says what its numbers mean, and what is printed.
 mod answer;
 mod report;
 mod row;

@@ -16,7 +16,8 @@ fn hash(what: &[u8], place: &[u8], at: usize, n: usize) {
     print::figures(what, sha256::hash(bytes::front(bytes::from(place, at), n)));
 }
 
-// The code of the last step and the server's, whether its call has ended, and what is kept but for the digest.
+// The code of the last step and the server's, whether its call has ended, and what is kept but for the digest: of an open write the levels
+// that a Reserve was handed out for, whether its PutOperation was, whether its give-up has begun, and the last server that is done.
 pub fn step(place: &[u8]) {
     print::filled(
         b": code # # ended # version # number # opened # signed #",
@@ -28,6 +29,15 @@ pub fn step(place: &[u8]) {
             bytes::u32_at(place, user_place::NUMBER),
             byte(place, user_place::OPENED),
             byte(place, user_place::SIGNED),
+        ],
+    );
+    print::filled(
+        b" progress # # # #",
+        &[
+            byte(place, user_place::LEVELS),
+            byte(place, user_place::PUT),
+            byte(place, user_place::BEGUN),
+            byte(place, user_place::DONE),
         ],
     );
 }

@@ -48,12 +48,13 @@ fn done(f: [u32; 16], work: &mut [u8]) {
     report::state(work);
 }
 
-// The start of an Update, a Write or a Read, some of the servers' answers, or a made-up answer.
+// The start of an Update, a Write, a Read or a give-up, some of the servers' answers, or a made-up answer.
 fn stepped(f: [u32; 16], work: &mut [u8]) {
     match f[2] {
         1 => step::step(f, 1, 0, b"", work),
         2 => start_write(f, f[6], work),
         3 => step::step(f, 3, f[3], b"", work),
+        8 => step::step(f, 4, 0, b"", work),
         5 => {
             let n = answers(f, f[3] as usize, work);
             print::number(b": answers ", n);

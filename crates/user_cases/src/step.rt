@@ -48,7 +48,7 @@ pub fn prepare(f: [u32; 16], kind: u8, number: u32, place: &mut [u8]) -> Setting
     }
 }
 
-// The start of an Update, of a Write of an entry or of a Read, or an answer taken in, on a copy of the place.
+// The start of an Update, of a Write of an entry, of a Read or of a give-up, or an answer taken in, on a copy of the place.
 pub fn step(f: [u32; 16], kind: u8, number: u32, input: &[u8], work: &mut [u8]) {
     let s = prepare(f, kind, number, work);
     let mut place = [0u8; 10240];

@@ -11,8 +11,8 @@ Inv-loop text keys servers₀ at₀ servers at = 0 ≤ at
 abbrev μ-loop : tie.MeasureT-loop
 μ-loop text keys servers₀ at₀ servers at = length text - at
 
-large-buffer-requires : tie.Need-large-buffer-requires Inv-loop μ-loop
-large-buffer-requires c κs = search needs
+memory-requires : tie.Need-memory-requires Inv-loop μ-loop
+memory-requires c κs = search needs
 
 slice-aggregate-servers : tie.Need-slice-aggregate-servers Inv-loop μ-loop
 slice-aggregate-servers c = search needs
@@ -53,7 +53,7 @@ rows-spec =
     (tie.spec
     Inv-loop
     μ-loop
-    large-buffer-requires
+    memory-requires
     slice-aggregate-servers
     loop-holds
     from-requires

@@ -9,7 +9,7 @@ use Rattle.exchange.proofs.server_place.serve.Tie as tie
 
 returns : tie.Need-returns
 unfolding placeServed noStore
-returns c = rw (lt-leb 48 (length (c .before .before .before .before .before .args .place .now)) (c .if1 .taken)) (refl, (refl, refl))
+returns c = rw (lt-leb 88 (length (c .before .before .before .before .before .args .place .now)) (c .if1 .taken)) (refl, (refl, refl))
 
 head-of-requires : tie.Need-head-of-requires
 head-of-requires c κs = search needs

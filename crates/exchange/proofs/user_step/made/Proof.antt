@@ -80,25 +80,53 @@ returns-3 c =
       eq-eqb (args .s .kind) 3 (c .before .if3 .taken),
     )
 
-tree-lent-requires-2 : tie.Need-tree-lent-requires-2
-tree-lent-requires-2 c κs = search needs
-
-write-made-requires : tie.Need-write-made-requires
-write-made-requires c κs =
-    let start = c .before .before .before .before .before .before .before .before .before .before .before .before in
-    let at-most-1 = c .before .before .before .before .before .before .before .at-most .ensures .1 in
+give-up-made-requires : tie.Need-give-up-made-requires
+give-up-made-requires c κs =
+    let start = c .before .before .before .before .before .before .before .before .before .before .before .before .before in
+    let at-most-1 = c .before .before .before .before .before .before .before .before .at-most .ensures .1 in
     omega (arith, at-most-1, length-unmapped ℕ (start .args .b .request) 2566 (start .good .1 .1 .1 .0 .1 .1 .0 .1 .0 .1))
 
 returns-4 : tie.Need-returns-4
 unfolding stepMade room
 returns-4 c =
     let c8 = c .before .before .before .before .before .before .before .before in
-    let args = c8 .before .before .before .before .before .args in
-    let front = c8 .before .front .ensures in
-    let at-most-0 = c8 .at-most .ensures .0 in
-    let if1-left = c .before .before .before .before .before .before .if1 .left in
-    let if2-left = c .before .before .before .before .if2 .left in
-    let if3-left = c .before .before .if3 .left in
+    let args = c8 .before .before .before .before .before .before .args in
+    let front = c8 .before .before .front .ensures in
+    let at-most-0 = c8 .before .at-most .ensures .0 in
+    let if1-left = c .before .before .before .before .before .before .before .if1 .left in
+    let if2-left = c .before .before .before .before .before .if2 .left in
+    let if3-left = c .before .before .before .if3 .left in
+    rw (
+      c .give-up-made .ensures,
+      front,
+      at-most-0,
+      ne-eqb (args .s .kind) 0 if1-left,
+      ne-eqb (args .s .kind) 1 if2-left,
+      ne-eqb (args .s .kind) 3 if3-left,
+      eq-eqb (args .s .kind) 4 (c .before .if4 .taken),
+    )
+
+tree-lent-requires-2 : tie.Need-tree-lent-requires-2
+tree-lent-requires-2 c κs = search needs
+
+write-made-requires : tie.Need-write-made-requires
+write-made-requires c κs =
+    let c8 = c .before .before .before .before .before .before .before .before in
+    let start = c8 .before .before .before .before .before .before in
+    let at-most-1 = c8 .before .at-most .ensures .1 in
+    omega (arith, at-most-1, length-unmapped ℕ (start .args .b .request) 2566 (start .good .1 .1 .1 .0 .1 .1 .0 .1 .0 .1))
+
+returns-5 : tie.Need-returns-5
+unfolding stepMade room
+returns-5 c =
+    let c8 = c .before .before .before .before .before .before .before .before in
+    let args = c8 .before .before .before .before .before .before .before .args in
+    let front = c8 .before .before .before .front .ensures in
+    let at-most-0 = c8 .before .before .at-most .ensures .0 in
+    let if1-left = c8 .if1 .left in
+    let if2-left = c .before .before .before .before .before .before .if2 .left in
+    let if3-left = c .before .before .before .before .if3 .left in
+    let if4-left = c .before .before .if4 .left in
     rw (
       c .write-made .ensures,
       front,
@@ -107,6 +135,7 @@ returns-4 c =
       ne-eqb (args .s .kind) 0 if1-left,
       ne-eqb (args .s .kind) 1 if2-left,
       ne-eqb (args .s .kind) 3 if3-left,
+      ne-eqb (args .s .kind) 4 if4-left,
     )
 
 pub made-spec : {M : Type 1} → statement M
@@ -124,6 +153,8 @@ made-spec =
     returns-2
     read-made-requires
     returns-3
+    give-up-made-requires
+    returns-4
     tree-lent-requires-2
     write-made-requires
-    returns-4)
+    returns-5)

@@ -3,8 +3,8 @@ use borrow.Author.Needs.{needs}
 use Rattle.script.proofs.form.of_reading_word.Statement.{statement}
 use Rattle.script.proofs.form.of_reading_word.Tie as tie
 
-of-kiln-word-requires : tie.Need-of-kiln-word-requires
-of-kiln-word-requires c κs = search needs
+of-giving-word-requires : tie.Need-of-giving-word-requires
+of-giving-word-requires c κs = search needs
 
 slice-aggregate-named : tie.Need-slice-aggregate-named
 slice-aggregate-named c = search needs
@@ -66,14 +66,14 @@ returns c =
       c8 .before .before .user2 .ensures,
       c8 .before .before .before .before .named .ensures,
       c8 .before .before .before .before .before .user .ensures,
-      c8 .before .before .before .before .before .before .before .of-kiln-word .ensures,
+      c8 .before .before .before .before .before .before .before .of-giving-word .ensures,
     )
 
 pub of-reading-word-spec : {M : Type 1} → statement M
 of-reading-word-spec =
     tie.close
     (tie.spec
-    of-kiln-word-requires
+    of-giving-word-requires
     slice-aggregate-named
     user-requires
     named-requires
