@@ -36,7 +36,7 @@ pub fn save(file: i32, memory: &mut [u8]) -> bool {
     if is_saved(memory) {
         return true;
     }
-    let mut room = [0u8; 4320];
+    let mut room = [0u8; 4324];
     let state: &mut [u8] = &mut room;
     step::load(memory, 0, state);
     let saved = user_file::save(file, state);

@@ -13,13 +13,10 @@ use state_files::arguments;
 use state_files::arguments::Settings;
 use state_files::user_file;
 
-// A user's Update.
-fn update(g: Settings, file: i32, keys: &[u8], memory: &mut [u8]) {
-    let start = Step {
-        kind: 1,
-        position: 0,
-    };
-    let asked = call::run(g, file, start, keys, b"", memory);
+// A user's Write of an entry, or a call of another kind that takes none: an Update, or a give-up, which the state says before it is sent.
+fn call_and_show(g: Settings, file: i32, kind: u8, keys: &[u8], e: &[u8], memory: &mut [u8]) {
+    let start = Step { kind, position: 0 };
+    let asked = call::run(g, file, start, keys, e, memory);
     show::outcome(asked, memory);
     show::open_write(memory);
 }
@@ -35,13 +32,7 @@ fn note_entry(e: &[u8], memory: &mut [u8]) {
 // A user's Write of an entry. A write of the same entry that is open is resumed.
 fn write(g: Settings, file: i32, keys: &[u8], e: &[u8], memory: &mut [u8]) {
     note_entry(e, memory);
-    let start = Step {
-        kind: 2,
-        position: 0,
-    };
-    let asked = call::run(g, file, start, keys, e, memory);
-    show::outcome(asked, memory);
-    show::open_write(memory);
+    call_and_show(g, file, 2, keys, e, memory);
 }
 
 // Writes the text of argument 8.
@@ -96,7 +87,7 @@ pub fn read_and_show(
 
 // Whether the own operation of argument 8 is settled.
 fn settled(g: Settings, keys: &[u8], memory: &[u8]) {
-    let mut kept = [0u8; 42];
+    let mut kept = [0u8; 46];
     step::load(memory, user_file::KEPT, &mut kept);
     let log = g.log;
     let s = using::settled(
@@ -113,7 +104,9 @@ fn settled(g: Settings, keys: &[u8], memory: &[u8]) {
 // Runs the command of argument 7.
 pub fn run(g: Settings, file: i32, keys: &[u8], memory: &mut [u8]) {
     if arguments::is(7, b"update") {
-        update(g, file, keys, memory);
+        call_and_show(g, file, 1, keys, b"", memory);
+    } else if arguments::is(7, b"give-up") {
+        call_and_show(g, file, 4, keys, b"", memory);
     } else if arguments::is(7, b"write") {
         write_text(g, file, keys, memory);
     } else if arguments::is(7, b"strike") {

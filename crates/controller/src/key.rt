@@ -107,10 +107,10 @@ pub fn make(folder: &[u8]) -> bool {
 
 // Writes state 1 of a user: all zero, and of no log yet.
 fn save_state(folder: &[u8]) -> bool {
-    let mut room = [0u8; 4320];
+    let mut room = [0u8; 4324];
     let first: &mut [u8] = &mut room;
     slot::advance(first, b"");
-    let mut space = [0u8; 12512];
+    let mut space = [0u8; 12516];
     let whole: &mut [u8] = &mut space;
     bytes::put(whole, 0, first);
     file::replace(folder, b"state.new", b"state", whole)

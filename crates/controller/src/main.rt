@@ -22,10 +22,10 @@ use state_files::setup;
 use state_files::user_file;
 
 // The user's memory, zero. The `ensures` gives only the length, so that no proof computes with the list.
-fn memory() -> [u8; 14842]
-    ensures { λ r. ⌜ 14842 ≡ length r ⌝ }
+fn memory() -> [u8; 14850]
+    ensures { λ r. ⌜ 14850 ≡ length r ⌝ }
 {
-    [0; 14842]
+    [0; 14850]
 }
 
 // Whether argument 7 is a command that takes argument 8, or one that takes none.
@@ -36,12 +36,12 @@ fn is_command(with_argument: bool) -> bool {
             || arguments::is(7, b"read")
             || arguments::is(7, b"settled");
     }
-    arguments::is(7, b"update") || arguments::is(7, b"board")
+    arguments::is(7, b"update") || arguments::is(7, b"give-up") || arguments::is(7, b"board")
 }
 
 fn usage() {
     report::line(b"usage: controller FOLDER key");
-    report::line(b"       controller FOLDER N OWN NAME USERS LINKS update|board");
+    report::line(b"       controller FOLDER N OWN NAME USERS LINKS update|give-up|board");
     report::line(
         b"       controller FOLDER N OWN NAME USERS LINKS write TEXT|strike POSITION|read POSITION|settled POSITION",
     );
@@ -127,7 +127,7 @@ fn run_state(g: Settings, fd: i32, users: &[u8], key: &[u8]) {
 
 // Loads the state that counts. Whether it is there and of this log.
 fn load(g: Settings, fd: i32, users: &[u8], memory: &mut [u8]) -> bool {
-    let mut room = [0u8; 4320];
+    let mut room = [0u8; 4324];
     let state: &mut [u8] = &mut room;
     if !user_file::load(fd, state) {
         report::line(b"the state is not whole: the key must not sign any more");
@@ -142,9 +142,9 @@ fn load(g: Settings, fd: i32, users: &[u8], memory: &mut [u8]) -> bool {
 
 // Binds the state to a setup where nothing is accepted or signed yet. Whether it is of this setup then.
 fn bind(mark: [u8; 32], memory: &mut [u8]) -> bool {
-    let none = [0u8; 42];
+    let none = [0u8; 46];
     if bytes::same(
-        bytes::front(bytes::from(memory, user_file::KEPT), 42),
+        bytes::front(bytes::from(memory, user_file::KEPT), 46),
         &none,
     ) {
         bytes::put(memory, user_file::SETUP, &mark);

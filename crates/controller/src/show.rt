@@ -57,7 +57,7 @@ pub fn found(position: u32, author: u32, e: &[u8]) {
     contents(e);
 }
 
-// The entry of the write that is open.
+// The entry of the write that is open, and how it can end.
 pub fn open_write(memory: &[u8]) {
     if bytes::byte_at(memory, user_file::KEPT + 40) != 1 {
         return;
@@ -65,4 +65,16 @@ pub fn open_write(memory: &[u8]) {
     let n = bytes::u16_at(memory, user_file::LENGTH) as usize;
     print::text(b"  open is the write of: ");
     contents(bytes::front(bytes::from(memory, user_file::ENTRY), n));
+    ways_to_end(memory);
+}
+
+// How the open write can end: byte 44 of what is kept says that its give-up has begun, byte 43 that its PutOperation was handed out.
+fn ways_to_end(memory: &[u8]) {
+    if bytes::byte_at(memory, user_file::KEPT + 44) == 1 {
+        print::text(b"  its give-up has begun: run `give-up` until it is done\n");
+    } else if bytes::byte_at(memory, user_file::KEPT + 43) == 1 {
+        print::text(b"  it can only be resumed: run its command again\n");
+    } else {
+        print::text(b"  it can be resumed by its command, or given up by `give-up`\n");
+    }
 }

@@ -1,4 +1,4 @@
-// A step of a user's call: its start, or an answer that it takes in. The user's memory is one slice of 14,842 bytes: its state
+// A step of a user's call: its start, or an answer that it takes in. The user's memory is one slice of 14,850 bytes: its state
 // (`user_file`), the state as it was saved last, the call, its hashes, the held entry, the request, the entry that is read and the links.
 use crate::key;
 use c_layout::taking;
@@ -9,21 +9,21 @@ use state_files::arguments::Settings;
 use state_files::user_file;
 
 // The memory: the state, the state as it was saved last, a call's, and the links.
-pub const SAVED: usize = 4320;
+pub const SAVED: usize = 4324;
 
-const CALL: usize = 8640;
+const CALL: usize = 8648;
 
-const HASHES: usize = 8722;
+const HASHES: usize = 8730;
 
-const HELD: usize = 9970;
+const HELD: usize = 9978;
 
-pub const REQUEST: usize = 10996;
+pub const REQUEST: usize = 11004;
 
-pub const ENTRY: usize = 13562;
+pub const ENTRY: usize = 13570;
 
-pub const LINKS: usize = 14586;
+pub const LINKS: usize = 14594;
 
-// What a step does: 0 takes in an answer, 1 starts an Update, 2 a Write, 3 a Read of the entry at a position.
+// What a step does: 0 takes in an answer, 1 starts an Update, 2 a Write, 3 a Read of the entry at a position, 4 a give-up.
 pub struct Step {
     pub kind: u8,
     pub position: u32,
@@ -35,7 +35,7 @@ pub fn load(s: &[u8], at: usize, d: &mut [u8]) {
 }
 
 // Lays what is kept.
-fn keep_state(kept: &[u8; 42], path: &[u8; 672], signature: &[u8; 2508], memory: &mut [u8]) {
+fn keep_state(kept: &[u8; 46], path: &[u8; 672], signature: &[u8; 2508], memory: &mut [u8]) {
     bytes::put2(memory, user_file::KEPT, kept, path);
     bytes::put(memory, user_file::SIGNATURE, signature);
 }
@@ -46,13 +46,13 @@ fn keep_call(call: &[u8; 82], hashes: &[u8; 1248], held: &[u8; 1026], memory: &m
     bytes::put(memory, HELD, held);
 }
 
-// The start of a call.
+// The start of a call. A give-up's changes what is kept.
 fn start(
     g: Settings,
     step: Step,
     keys: &[u8],
     input: &[u8],
-    kept: &[u8; 42],
+    kept: &mut [u8; 46],
     path: &[u8; 672],
     call: &mut [u8; 82],
     held: &mut [u8; 1026],
@@ -79,6 +79,9 @@ fn start(
             entry,
         );
     }
+    if step.kind == 4 {
+        return using::give_up_start(n, own, &log, users, kept, path, call, request);
+    }
     write_start(g, keys, input, kept, path, call, held, request)
 }
 
@@ -87,7 +90,7 @@ fn write_start(
     g: Settings,
     keys: &[u8],
     input: &[u8],
-    kept: &[u8; 42],
+    kept: &[u8; 46],
     path: &[u8; 672],
     call: &mut [u8; 82],
     held: &mut [u8; 1026],
@@ -117,7 +120,7 @@ fn lent(
     step: Step,
     keys: &[u8],
     input: &[u8],
-    kept: &mut [u8; 42],
+    kept: &mut [u8; 46],
     path: &mut [u8; 672],
     signature: &mut [u8; 2508],
     call: &mut [u8; 82],
@@ -158,7 +161,7 @@ fn on_call(
     step: Step,
     keys: &[u8],
     input: &[u8],
-    kept: &mut [u8; 42],
+    kept: &mut [u8; 46],
     path: &mut [u8; 672],
     signature: &mut [u8; 2508],
     memory: &mut [u8],
@@ -196,7 +199,7 @@ fn on_call(
 
 // A step of a call on a user's state. The input is the entry of a Write, or the answer that is taken in.
 pub fn run(g: Settings, step: Step, keys: &[u8], input: &[u8], memory: &mut [u8]) -> Asked {
-    let mut kept = [0u8; 42];
+    let mut kept = [0u8; 46];
     let mut path = [0u8; 672];
     let mut signature = [0u8; 2508];
     load(memory, user_file::KEPT, &mut kept);

@@ -76,7 +76,7 @@ fn serve_folder(d: Settings, mark: [u8; 32], folder: &[u8], users: &[u8]) {
     }
     let mut space = zeros();
     let store: &mut [u8] = &mut space;
-    let mut slot = [0u8; 127];
+    let mut slot = [0u8; 167];
     let s: &mut [u8] = &mut slot;
     if log::load(fd, mark, s, store) && serve::takes(d, users, store, s) {
         serve::turns(fd, d, users, store, s);

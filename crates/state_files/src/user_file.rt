@@ -1,23 +1,25 @@
-// The file `state` of a user: slot 1 at byte 0 and slot 2 at byte 8,192. A slot of 4,320 bytes has the state's number, the setup's hash,
+// The file `state` of a user: slot 1 at byte 0 and slot 2 at byte 8,192. A slot of 4,324 bytes has the state's number, the setup's hash,
 // what the user keeps with path and signature, the entry of its last write with its length, and the check.
 ghost use mathlib.Core.Path.{_≡_};
 ghost use mathlib.Core.List.{[]};
 ghost use Rattle.state_files.specs.Slot.{advanced};
+ghost use Rattle.state_files.specs.Older.{userNow};
 use crate::file;
 use crate::report;
 use crate::slot;
+use sha256::bytes;
 
 pub const SETUP: usize = 8;
 
 pub const KEPT: usize = 40;
 
-pub const PATH: usize = 82;
+pub const PATH: usize = 86;
 
-pub const SIGNATURE: usize = 754;
+pub const SIGNATURE: usize = 758;
 
-pub const LENGTH: usize = 3262;
+pub const LENGTH: usize = 3266;
 
-pub const ENTRY: usize = 3264;
+pub const ENTRY: usize = 3268;
 
 pub const SECOND: u32 = 8192;
 
@@ -32,21 +34,49 @@ pub fn save(fd: i32, s: &mut [u8]) -> bool
     libc::fsync(fd) == 0
 }
 
-// Loads the state that counts to s, and answers whether there is one. A file that cannot be read whole has none: a slot that was not read
-// is not taken for one that was cut.
-pub fn load(fd: i32, s: &mut [u8]) -> bool {
-    let mut room = [0u8; 4320];
-    let mut room_2 = [0u8; 4320];
-    let first: &mut [u8] = &mut room;
-    let second: &mut [u8] = &mut room_2;
-    if file::read_from(fd, 0, first) != 4320 {
-        return false;
+// Lays a slot of version 0.1.0, in which 42 bytes were kept, as slots are laid now. One that is whole as it is stays as it is. A write that
+// is open can be resumed, but not given up: whether its PutOperation was handed out is not known.
+fn renew(s: &mut [u8; 4324])
+    ensures { λ _. ⌜ now (s .exit) ≡ userNow (now (s .entry)) ⌝ }
+{
+    if slot::is_whole(s, b"") {
+        return;
     }
-    if file::read_from(fd, SECOND, second) != 4320 {
-        return false;
+    let old = *s;
+    if !slot::is_whole(bytes::front(&old, 4320), b"") {
+        return;
     }
+    let opened = old[80];
+    let progress = [opened, opened, 0, 0];
+    bytes::put2(s, 82, &progress, bytes::front(bytes::from(&old, 82), 4206));
+    slot::seal(s, b"");
+}
+
+// Reads the slot at a place, and answers whether it could be read: that of version 0.1.0 has 4,320 bytes.
+fn read_slot(fd: i32, at: u32, s: &mut [u8; 4324]) -> bool {
+    let n = file::read_from(fd, at, s);
+    renew(s);
+    n == 4324 || n == 4320
+}
+
+// Copies the slot that counts to s, and answers whether there is one.
+fn choose(first: &[u8; 4324], second: &[u8; 4324], s: &mut [u8]) -> bool {
     let one = slot::is_whole(first, b"");
     let two = slot::is_whole(second, b"");
     report::cut_slots(first, one, second, two);
     slot::choose(first, one, second, two, s)
+}
+
+// Loads the state that counts to s, and answers whether there is one. A file that cannot be read whole has none: a slot that was not read
+// is not taken for one that was cut.
+pub fn load(fd: i32, s: &mut [u8]) -> bool {
+    let mut first = [0u8; 4324];
+    let mut second = [0u8; 4324];
+    if !read_slot(fd, 0, &mut first) {
+        return false;
+    }
+    if !read_slot(fd, SECOND, &mut second) {
+        return false;
+    }
+    choose(&first, &second, s)
 }
