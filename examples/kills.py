@@ -1,11 +1,13 @@
-"""Four desks and two controllers on named pipes: writes, strikes, reads and boards, while desks and controllers are killed at random moments.
+"""Four desks and two controllers on named pipes: writes, strikes, give-ups, reads and boards, while desks and controllers are killed at random
+moments.
 
     python3 examples/kills.py [SEED [KILLS]]
 
 It runs target/bin/desk and target/bin/controller, which `rt check desk controller` writes, in a folder of its own, and ends by itself after
 KILLS kills, 150 where nothing is said. Checked are: what a controller was told to be accepted (code 0) is never lost; every entry reads back,
-by both users, with its author; and no signature number is used for two signatures, in any request that left a controller, whether a desk
-took it in or not.
+by both users, with its author; a write that was given up is in no view, and both users can go on after it; once a give-up has begun, nothing
+but a give-up goes on; and no signature number is used for two signatures, in any request that left a controller, whether a desk took it in or
+not.
 """
 import os, random, re, shutil, signal, subprocess, sys, tempfile, time
 
@@ -68,17 +70,22 @@ def clear_lock(folder):
 
 class Log:
     def __init__(self, kills):
-        self.wanted, self.killed, self.cut, self.entries = kills, 0, 0, []
+        self.wanted, self.killed, self.cut, self.given_up, self.unheard, self.entries = kills, 0, 0, 0, 0, []
         self.servers = [Server(i + 1) for i in range(N)]
 
     def run(self, user, *words, kills=True):
         """One run of a controller, in which it or a desk may be killed. What it printed."""
         for server in self.servers:
             server.start()
+        kind = 9 if words[0] == "give-up" else 5
         words = [CONTROLLER, path("user", user), str(N), str(user), NAME, path("users"), path("links", "")] + list(words)
+        before = [len(frames(i + 1)) for i in range(N)]
         run = subprocess.Popen(words, stdout=subprocess.PIPE, stderr=subprocess.PIPE)
         if kills and random.random() < 0.7:
-            time.sleep(random.choice((0, random.uniform(0, 0.01), random.uniform(0, 0.05))))
+            if random.random() < 0.5:
+                time.sleep(random.choice((0, random.uniform(0, 0.01), random.uniform(0, 0.05))))
+            else:
+                wait_for(run, before, kind)
             victim = random.choice(self.servers + [run] * N)
             if victim is run and run.poll() is None:
                 run.kill()
@@ -91,17 +98,38 @@ class Log:
             server.end()
         return out.decode() + "".join(line for line in said.decode().splitlines(True) if "not whole: OPERATING, Files" not in line)
 
-    def until_done(self, user, *words):
-        """Runs a command again until it is done: code 0, or what a read prints."""
+    def until_done(self, user, *words, give_up=0.0):
+        """Runs a command again until it is done: code 0, or what a read prints. A write that was cut may be given up: then nothing."""
+        self.unheard = 0
         for _ in range(200):
             said = self.run(user, *words)
             if re.match(r"code 0,|\d+, by user", said):
                 return said
             assert not said or re.match(r"no answer|code 11, the server's [48],|.*OPERATING, Lock", said), (words, said)
             self.cut += 1
+            self.unheard += not said
             if random.random() < 0.2:
                 self.look_in(3 - user)
+            if random.random() < give_up and self.give_up(user, *words):
+                return None
         raise AssertionError("never done: %s" % (words,))
+
+    def give_up(self, user, *words):
+        """Gives a write up that was cut. Whether it could be: 28 says that it was not opened yet, or that its entry may have been sent."""
+        for _ in range(200):
+            said = self.run(user, "give-up")
+            if said.startswith("code 0,"):
+                self.note(user, words, said, 0)
+                self.given_up += 1
+                return True
+            if said.startswith("code 28,"):
+                return False
+            assert not said or re.match(r"no answer|.*OPERATING, Lock", said), said
+            if "its give-up has begun" in said:
+                for refused in (words, ("update",)):
+                    said = self.run(user, *refused)
+                    assert not said or re.match(r"code 18,|.*OPERATING, Lock", said), (refused, said)
+        raise AssertionError("never given up: %s" % (words,))
 
     def look_in(self, user):
         """The other user's Update while a write may be open: done, or refused because of it."""
@@ -109,10 +137,17 @@ class Log:
         assert not said or re.match(r"no answer|code 0,|code 11, the server's [48],|.*OPERATING, Lock", said), said
 
     def write(self, user, *words):
-        said = self.until_done(user, *words)
+        said = self.until_done(user, *words, give_up=0.4)
+        if said is not None:
+            self.note(user, words, said, 1)
+
+    def note(self, user, words, said, written):
+        """Notes the entry that a version says to be written. A run that was killed after its end was saved and before that was printed has
+        written it too, and then the run after it has written it again."""
         version = int(re.match(r"code 0, version (\d+)", said).group(1))
-        self.entries.append((user, words))
-        assert version == len(self.entries), (version, len(self.entries), said)
+        more = version - len(self.entries)
+        assert written <= more <= written + self.unheard, (version, len(self.entries), self.unheard, said)
+        self.entries += [(user, words)] * more
 
     def read(self, user, position):
         author, words = self.entries[position - 1]
@@ -121,22 +156,31 @@ class Log:
         assert said == "%d, by user %d: %s\n" % (position, author, contents), (said, words)
 
 
-def requests(number):
-    """The requests that came to a server, by the trace of its link."""
-    with open(path("trace", number), "rb") as f:
-        data = f.read()
+def frames(number):
+    """The requests that came to a server, by the trace of its link, the last one perhaps in part."""
+    found, data = [], b""
+    if os.path.exists(path("trace", number)):
+        with open(path("trace", number), "rb") as f:
+            data = f.read()
     while data:
         length = int.from_bytes(data[:2], "big")
-        assert len(data) >= 2 + length, "a frame was cut"
-        yield data[2:2 + length]
+        found.append(data[2:2 + length])
         data = data[2 + length:]
+    return found
+
+
+def wait_for(run, before, kind):
+    """Waits until a request of a kind has come to a server since the run began, or the run has ended."""
+    while run.poll() is None:
+        if any(request[2:3] == bytes([kind]) for i in range(N) for request in frames(i + 1)[before[i]:]):
+            return
 
 
 def signatures():
     """Author and signature number of each signature that left a controller; two signatures with one number are an error."""
     seen = {}
     for number in range(1, N + 1):
-        for request in requests(number):
+        for request in frames(number):
             if request[2] == 8:
                 author, signature = request[19:21], request[58:]
                 known = seen.setdefault((author, signature[:4]), signature)
@@ -164,7 +208,8 @@ def main():
             else:
                 log.write(user, "write", "firing %d: %s" % (len(log.entries), "cone " * random.randint(0, 190)))
             log.until_done(3 - user, "update")
-            log.read(random.choice((1, 2)), random.randint(1, len(log.entries)))
+            if log.entries:
+                log.read(random.choice((1, 2)), random.randint(1, len(log.entries)))
         for user in (1, 2):
             log.until_done(user, "update")
             for position in range(1, len(log.entries) + 1):
@@ -174,8 +219,8 @@ def main():
     finally:
         for server in log.servers:
             server.pipeline.kill()
-    print("%d entries, %d kills, %d commands that had to be run again, %d signatures with as many numbers; all read back by both users"
-          % (len(log.entries), log.killed, log.cut, signatures()))
+    print("%d entries, %d kills, %d commands that had to be run again, %d writes given up, %d signatures with as many numbers; all read back "
+          "by both users" % (len(log.entries), log.killed, log.cut, log.given_up, signatures()))
     shutil.rmtree(WORK)
 
 

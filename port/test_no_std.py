@@ -1,5 +1,7 @@
 #!/usr/bin/env python3
 """Tests of no_std.py: what it takes out, what it changes and what it refuses. Run: python3 port/test_no_std.py"""
+import contextlib
+import io
 import tempfile
 import unittest
 from pathlib import Path
@@ -57,6 +59,19 @@ class Changed(unittest.TestCase):
             self.assertIn(part, text, "what C calls")
         for part in ("unsafe { &*a },", "unsafe { core::slice::from_raw_parts_mut(b, b_len) },"):
             self.assertIn(part, text, "what it makes of the pointers")
+
+
+class WholeLibrary(unittest.TestCase):
+    def test_each_kind_of_call(self):
+        with tempfile.TemporaryDirectory() as folder:
+            with contextlib.redirect_stdout(io.StringIO()) as said:
+                no_std.main([folder])
+            exported = (Path(folder) / no_std.LIBRARY / "src" / "calls.rs").read_text()
+        crates = no_std.needed_crates()
+        self.assertIn("15 crates with 23 exported functions, which are the header's", said.getvalue(), "what is written")
+        for call in ("update", "write", "read", "give_up"):
+            self.assertIn(f"user_{call}", crates, "the crate of a call")
+            self.assertIn(f"fn kozbrax_{call}_start(\n        servers: u32,", exported, "what C calls to start it")
 
 
 class RefusedForms(unittest.TestCase):

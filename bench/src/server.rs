@@ -2,6 +2,7 @@
 mod case;
 mod damage;
 mod exchange;
+mod give_ups;
 mod honest;
 pub mod message;
 pub mod speed;
@@ -38,7 +39,8 @@ pub fn run(seed: u64) {
     for servers in 2..=16 {
         Log::new(&mut tally, Random::new(seed), &keys, servers).run();
     }
-    println!("logs of 2 to 16 servers written without a fault: each request accepted, and everything stored found");
+    println!("logs of 2 to 16 servers written without a fault: each request accepted, and everything stored found;");
+    println!("  before each write another one is reserved in part and given up, after which every head is as before");
     for exchange in 0..EXCHANGES {
         let mut exchange = Exchange::new(seed.wrapping_mul(EXCHANGES).wrapping_add(exchange), &keys);
         for _ in 0..STEPS {

@@ -2,6 +2,7 @@
 mod case;
 mod damage;
 mod exchange;
+mod give_ups;
 mod honest;
 mod plain;
 mod plain_answer;
@@ -29,11 +30,12 @@ const OFTEN: usize = 50;
 
 pub const LEAST_REQUEST: usize = REQUEST_HEADER + HASH + SIGNATURE;
 
-/// The five calls of one side. A Write's start takes the entry and the randomizer, a Read's the position, a step the answer.
+/// The six calls of one side. A Write's start takes the entry and the randomizer, a Read's the position, a step the answer.
 pub struct Side {
     pub update_start: fn(&Settings, &mut Lent) -> Asked,
     pub write_start: fn(&Settings, &Signing, &[u8], &[u8; 32], &mut Lent) -> Asked,
     pub read_start: fn(&Settings, u32, &mut Lent) -> Asked,
+    pub give_up_start: fn(&Settings, &mut Lent) -> Asked,
     pub take: fn(&Settings, &Signing, &[u8], &mut Lent) -> Asked,
     pub settled: fn(&Settings, &[u8; KEPT], u32) -> SettledAnswer,
 }
@@ -42,6 +44,7 @@ pub const PLAIN: Side = Side {
     update_start: plain::update_start,
     write_start: plain::write_start,
     read_start: plain::read_start,
+    give_up_start: plain::give_up_start,
     take: plain::take,
     settled: plain::settled,
 };
@@ -50,6 +53,7 @@ pub const LIBRARY: Side = Side {
     update_start: kozbrax::update_start,
     write_start: kozbrax::write_start,
     read_start: kozbrax::read_start,
+    give_up_start: kozbrax::give_up_start,
     take: kozbrax::take,
     settled: kozbrax::settled,
 };

@@ -1,7 +1,7 @@
 /* A first program with Kozbrax: a log on two servers, and one user, all in memory.
 
-   The user writes two insertions and a strike, updates, reads the log back and works out its board. Then an answer is damaged on its way
-   and a request names another log. Every code is compared with the one that is expected; the program exits with 1 where one differs.
+   The user writes two insertions and a strike, updates, reads the log back and works out its board. Then an answer is damaged on its way,
+   a request names another log, and a write is given up. Every code is compared with the one that is expected; the program exits with 1 where one differs.
 
    In a program that is used, servers and users are on different machines, and `save_user` and `save_server` write to stable storage. */
 #include <stdio.h>
@@ -75,6 +75,8 @@ static const struct { uint32_t code; const char *name; } names[] = {
   { KOZBRAX_READ_DIFFERS, "READ_DIFFERS" },
   { KOZBRAX_BAD_POSITION, "BAD_POSITION" },
   { KOZBRAX_BAD_SCHEDULE, "BAD_SCHEDULE" },
+  { KOZBRAX_NOTHING_TO_GIVE_UP, "NOTHING_TO_GIVE_UP" },
+  { KOZBRAX_CANNOT_GIVE_UP, "CANNOT_GIVE_UP" },
   { KOZBRAX_BAD_STARTS, "BAD_STARTS" },
   { KOZBRAX_BAD_HOURS, "BAD_HOURS" },
   { KOZBRAX_NO_START, "NO_START" },
@@ -148,11 +150,19 @@ static void make_randomizer(const uint8_t *entry, size_t length, uint8_t *random
   kozbrax_sha256(text, secret + 4 + length, randomizer, KOZBRAX_RANDOMIZER);
 }
 
-static kozbrax_asked write_entry(const uint8_t *entry, size_t length) {
+static kozbrax_asked start_write(const uint8_t *entry, size_t length) {
   uint8_t randomizer[KOZBRAX_RANDOMIZER];
   make_randomizer(entry, length, randomizer);
-  return finish(kozbrax_write_start(SERVERS, OWN, log_name, users, sizeof users, key.tree, sizeof key.tree, entry, length, randomizer,
-                                    user.kept, user.path, user.call, user.held, user.request, sizeof user.request));
+  return kozbrax_write_start(SERVERS, OWN, log_name, users, sizeof users, key.tree, sizeof key.tree, entry, length, randomizer,
+                             user.kept, user.path, user.call, user.held, user.request, sizeof user.request);
+}
+
+static kozbrax_asked write_entry(const uint8_t *entry, size_t length) { return finish(start_write(entry, length)); }
+
+/* It changes what is kept, which `finish` saves before the first request is sent. */
+static kozbrax_asked give_up(void) {
+  return finish(kozbrax_give_up_start(SERVERS, OWN, log_name, users, sizeof users, user.kept, user.path, user.call, user.request,
+                                      sizeof user.request));
 }
 
 static kozbrax_asked start_update(void) {
@@ -247,6 +257,22 @@ static void send_damaged_request(void) {
   expect_code("The same call with the right request", finish(step(out)).code, KOZBRAX_OK);
 }
 
+/* The user is switched off with a write open: one Reserve is accepted, and the next one was handed out and never sent. Both servers are told;
+   the one that knows nothing of this write answers 27, and is done as well. */
+static void give_up_a_write(void) {
+  static const uint8_t wrong[] = "\001cone 10, 1305 degrees", right[] = "\001cone 9, 1280 degrees";
+  kozbrax_asked asked = start_write(wrong, sizeof wrong - 1);
+  while (asked.code == KOZBRAX_OK && !user.kept[40]) asked = step(asked); /* until the write is open */
+  asked = step(asked);
+  expect_code("Write of a third insertion, up to its second Reserve", asked.code, KOZBRAX_OK);
+  expect_code("Update while it is open", start_update().code, KOZBRAX_WRITE_OPEN);
+  expect_code("The user gives it up", give_up().code, KOZBRAX_OK);
+  expect("the version is 3 still, and nothing is open", number(user.kept) == ENTRIES && !user.kept[40]);
+  expect_code("There is nothing more to give up", give_up().code, KOZBRAX_CANNOT_GIVE_UP);
+  expect_code("Write of another insertion in its place", write_entry(right, sizeof right - 1).code, KOZBRAX_OK);
+  expect("the version is 4", number(user.kept) == ENTRIES + 1);
+}
+
 int main(void) {
   make_key();
   write_three_entries();
@@ -254,6 +280,7 @@ int main(void) {
   read_and_show_board();
   take_damaged_answer();
   send_damaged_request();
+  give_up_a_write();
   printf("The stores hold %u and %u bytes.\n", (unsigned)servers[0].used, (unsigned)servers[1].used);
   return 0;
 }

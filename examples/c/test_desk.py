@@ -29,7 +29,7 @@ def load_library():
     path = os.path.join(WORK, "libkozbrax.so")
     subprocess.run(["cc", "-shared", "-o", path, "-Wl,--whole-archive", ARCHIVE, "-Wl,--no-whole-archive"], check=True)
     library = ctypes.CDLL(path)
-    for name in ("update_start", "write_start", "read_start", "take"):
+    for name in ("update_start", "write_start", "read_start", "give_up_start", "take"):
         getattr(library, "kozbrax_" + name).restype = Asked
     library.kozbrax_server.restype = Served
     return library
@@ -45,7 +45,7 @@ class User:
     def __init__(self, library, key):
         self.library, self.key = library, key
         self.kept, self.path, self.signature, self.call, self.hashes, self.held, self.request, self.entry = (
-            ctypes.create_string_buffer(n) for n in (42, 672, 2508, 82, 1248, 1026, 2566, 1024))
+            ctypes.create_string_buffer(n) for n in (46, 672, 2508, 82, 1248, 1026, 2566, 1024))
         self.who = (N, 1, NAME.encode().ljust(16, b"\0"), key.public, size(56))
 
     def run(self, asked, send):
@@ -64,6 +64,9 @@ class User:
         randomizer = hashlib.sha256(b"second secret" + self.kept.raw[36:40] + entry).digest()
         return self.run(self.library.kozbrax_write_start(*self.who, self.key.tree, size(65504), entry, size(len(entry)), randomizer,
                                                          self.kept, self.path, self.call, self.held, self.request, size(2566)), send)
+
+    def give_up(self, send):
+        return self.run(self.library.kozbrax_give_up_start(*self.who, self.kept, self.path, self.call, self.request, size(2566)), send)
 
     def read(self, position, send):
         asked = self.run(self.library.kozbrax_read_start(*self.who, position, self.kept, self.call, self.request, size(2566),
@@ -85,7 +88,7 @@ class Model:
 
     def __init__(self, library, key, own):
         self.library, self.key, self.own, self.used = library, key, own, 0
-        self.head, self.store, self.answer = (ctypes.create_string_buffer(n) for n in (39, 10**6, 2552))
+        self.head, self.store, self.answer = (ctypes.create_string_buffer(n) for n in (79, 10**6, 2552))
 
     def ask(self, request):
         served = self.library.kozbrax_server(N, self.own, NAME.encode().ljust(16, b"\0"), self.key.public, size(56), self.head,
@@ -146,12 +149,12 @@ def write_file(folder, data):
 
 def slot_state(data, at):
     """Number, head, and used part of the store of a valid slot, else None."""
-    slot, store = data[at:at + 127], data[8192:]
-    before, used = (int.from_bytes(slot[i:i + 8], "big") for i in (79, 87))
-    if len(slot) < 127 or before > used or used > len(store):
+    slot, store = data[at:at + 167], data[8192:]
+    before, used = (int.from_bytes(slot[i:i + 8], "big") for i in (119, 127))
+    if len(slot) < 167 or before > used or used > len(store):
         return None
-    check = hashlib.sha256(slot[:95] + store[before:used]).digest()
-    return (int.from_bytes(slot[:8], "big"), slot[40:79], store[:used]) if check == slot[95:] else None
+    check = hashlib.sha256(slot[:135] + store[before:used]).digest()
+    return (int.from_bytes(slot[:8], "big"), slot[40:119], store[:used]) if check == slot[135:] else None
 
 
 def state_of(data):
@@ -246,6 +249,63 @@ def run_with_kills(library, key):
            % (servers.killed, servers.late, servers.mended))
 
 
+class Dropped(Exception):
+    """A request that is not sent: its call is dropped."""
+
+
+def give_ups_with_kills(library, key):
+    """Writes that are dropped at a Reserve and given up, while desks are killed: another write then takes the position."""
+    servers, user, given_up = Servers(library, key, os.path.join(WORK, "give-ups"), 0.3), User(library, key), 0
+
+    def send_some(server, request):
+        if request[2] == 6 or (request[2] == 5 and random.random() < 0.3):
+            raise Dropped
+        return servers.send(server, request)
+
+    for i in range(20):
+        try:
+            user.write(b"\1given up %d" % i, send_some)
+        except Dropped:
+            asked = user.give_up(servers.send)
+            assert asked.code == (28 if user.kept.raw[43] else 0)
+            given_up += asked.code == 0
+        entry = b"\1given up %d" % i if user.kept.raw[40] else b"\1kept %d" % i
+        assert user.write(entry, servers.send).code == 0
+        assert user.read(i + 1, servers.send) == (0, 1, entry)
+    servers.end()
+    assert given_up > 3
+    passed("20 writes dropped at a Reserve or the PutOperation, %d of them given up, %d kills" % (given_up, servers.killed))
+
+
+def older_files(library, key):
+    """Files from before give-ups, with a head of 39 bytes in each slot, are read as they are, and the next save is as they are now."""
+    servers, user = Servers(library, key, os.path.join(WORK, "older"), 0), User(library, key)
+    for i in range(3):
+        assert user.write(b"\1firing %d" % i, servers.send).code == 0
+    servers.end()
+    for folder, model in zip(servers.folders, servers.models):
+        data = bytearray(file_of(folder))
+        for at in (0, 4096):
+            slot, store = data[at:at + 167], data[8192:]
+            before, used = (int.from_bytes(slot[i:i + 8], "big") for i in (119, 127))
+            older = slot[:79] + slot[119:135]
+            data[at:at + 167] = (older + hashlib.sha256(older + store[before:used]).digest()).ljust(167, b"\0")
+        write_file(folder, data)
+        model.head[39:79] = bytes(40)
+    desks = [Desk(f, i + 1) for i, f in enumerate(servers.folders)]
+
+    def send(server, request):
+        answer = desks[server - 1].ask(request)
+        assert answer == servers.models[server - 1].ask(request)
+        return answer
+
+    assert user.write(b"\1firing 3", send).code == 0
+    assert [user.read(i + 1, send) for i in range(4)] == [(0, 1, b"\1firing %d" % i) for i in range(4)]
+    assert all(desk.end() == (0, "") for desk in desks)
+    assert all(servers.state(i) == model.state() for i, model in enumerate(servers.models))
+    passed("files from before give-ups: read, and saved anew")
+
+
 def order_of_calls(requests):
     """Between a write to the log's file and the next answer the file is synchronized, and the store too where it has changed."""
     if not shutil.which("strace"):
@@ -284,7 +344,7 @@ def new_logs_with_kills():
         whole = os.path.exists(os.path.join(folder, "log"))
         there += whole
         assert Desk(folder, 1, new=not whole).end() == (0, "")
-        assert state_of(file_of(folder)) == (1, bytes(39), b"")
+        assert state_of(file_of(folder)) == (1, bytes(79), b"")
     passed("60 new logs with a kill: %d were there, the others could be begun again" % there)
 
 
@@ -307,7 +367,7 @@ def power_failures(library, key):
         if old == new:
             continue
         folder, at, used = servers.folders[server - 1], 0 if new[0] % 2 else 4096, (len(old[2]), len(new[2]))
-        slot, record = slice(at, at + 127), slice(8192 + used[0], 8192 + used[1])
+        slot, record = slice(at, at + 167), slice(8192 + used[0], 8192 + used[1])
         kinds = [("nothing", [], old), ("half of the slot", [slice(at, at + 64)], old), ("all", [slot, record], new)]
         if used[0] != used[1]:
             kinds += [("the slot alone", [slot], old), ("the record alone", [record], old),
@@ -341,14 +401,14 @@ def damages(library, key):
         write_file(folder, changed)
 
     newest, oldest = (0, 4096) if number % 2 else (4096, 0)
-    for at in range(127):
+    for at in range(167):
         with_bytes(newest + at)
         code, line = Desk(folder, 1).end()
         assert code == 0 and "going on from state %d" % (number - 1) in line, (at, line)
         with_bytes(oldest + at)
         code, line = Desk(folder, 1).end()
         assert code == 0 and "going on from state %d" % number in line, (at, line)
-    passed("each of the 127 bytes of either slot changed: the other slot counts")
+    passed("each of the 167 bytes of either slot changed: the other slot counts")
     with_bytes(newest + 3, oldest + 100)
     refused("both slots damaged", "neither of its slots", arguments(folder, 1))
     with_bytes(8192)
@@ -486,11 +546,13 @@ def main():
         locks(folder)
         frames(library, folder)
         limits(library, key)
+    older_files(library, key)
     requests = power_failures(library, key)
     if not PROGRAMS:
         order_of_calls(requests)
     new_logs_with_kills()
     run_with_kills(library, key)
+    give_ups_with_kills(library, key)
     shutil.rmtree(WORK)
     print("all passed")
 

@@ -2,7 +2,8 @@
 use crate::{raw, Asked, Lent, Served, Settings, SettledAnswer, Signing, HEAD, KEPT};
 
 /// One call of server `own`: takes in a request of any bytes. Gives the code, the length of the answer in its buffer, and the store's
-/// new used length, which the caller keeps with head and store. 22 and 21 write nothing; of 1 to 9 the answer alone is written.
+/// new used length, which the caller keeps with head and store. 22 and 21 write nothing; of 1 to 9 and 27 the answer alone is
+/// written.
 #[inline]
 pub fn server(
     settings: &Settings,
@@ -103,6 +104,27 @@ pub fn read_start(settings: &Settings, position: u32, lent: &mut Lent) -> Asked 
             lent.request.len(),
             lent.entry.as_ptr(),
             lent.entry.len(),
+        )
+    }
+}
+
+/// Starts giving up the open write, or repeats that for the servers that are not done; on 0 the first request is there and `kept` says that
+/// the give-up has begun, which is to be saved before the request is sent; else everything is as it was.
+#[inline]
+pub fn give_up_start(settings: &Settings, lent: &mut Lent) -> Asked {
+    // SAFETY: as for `update_start`.
+    unsafe {
+        raw::kozbrax_give_up_start(
+            settings.servers,
+            settings.own,
+            settings.log.as_ptr(),
+            settings.users.as_ptr(),
+            settings.users.len(),
+            lent.kept.as_mut_ptr(),
+            lent.path.as_ptr(),
+            lent.call.as_mut_ptr(),
+            lent.request.as_mut_ptr(),
+            lent.request.len(),
         )
     }
 }

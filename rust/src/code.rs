@@ -1,4 +1,4 @@
-//! Names of the codes that include/kozbrax.h explains. 1 to 9 are a server's, as its answer says.
+//! Names of the codes that include/kozbrax.h explains. 1 to 9 are a server's, as its answer says, and so is 27.
 
 pub const DONE: u32 = 0;
 pub const NO_ANSWER_TO_THE_REQUEST: u32 = 10;
@@ -17,6 +17,8 @@ pub const SETTINGS_OUT_OF_RANGE: u32 = 22;
 pub const ENTRY_NOT_IN_THE_LOG: u32 = 23;
 pub const POSITION_OUT_OF_RANGE: u32 = 24;
 pub const NO_SCHEDULE_BY_THE_RULES: u32 = 26;
+pub const NOT_THE_RESERVED_HEAD: u32 = 27;
+pub const NO_WRITE_TO_GIVE_UP: u32 = 28;
 pub const STARTS_NOT_ALLOWED: u32 = 32;
 pub const HOURS_NOT_ALLOWED: u32 = 33;
 pub const NO_START_IN_THE_HOURS: u32 = 34;

@@ -32,7 +32,7 @@ pub struct Signing<'a> {
 
 /// The buffers that a user lends to its calls, and keeps from call to call.
 pub struct Lent<'a> {
-    /// Version, digest, next signature number and two marks; all zero for a new user.
+    /// Version, digest, next signature number, two marks, and how far an open write and its give-up have got; all zero for a new user.
     pub kept: &'a mut [u8; KEPT],
     /// Of an open write.
     pub path: &'a mut [u8; PATH],

@@ -12,7 +12,7 @@ mod lent;
 pub mod raw;
 mod results;
 
-pub use calls::{read_start, server, settled, take, update_start, write_start};
+pub use calls::{give_up_start, read_start, server, settled, take, update_start, write_start};
 pub use functions::{
     board, cover, digest, first_label, leaf, owner, schedule, schedule_opening, schedule_warm, sha256, wait,
 };
@@ -34,9 +34,9 @@ pub const SIGNATURE: usize = 2_508;
 /// A node of a cover: its position in 4 bytes, its level in 1.
 pub const NODE: usize = 5;
 /// A server's head.
-pub const HEAD: usize = 39;
+pub const HEAD: usize = 79;
 /// What a user keeps.
-pub const KEPT: usize = 42;
+pub const KEPT: usize = 46;
 /// The path of a user's open write.
 pub const PATH: usize = 672;
 /// A user's call.

@@ -102,6 +102,18 @@ extern "C" {
         entry: *const u8,
         entry_len: usize,
     ) -> Asked;
+    pub fn kozbrax_give_up_start(
+        servers: u32,
+        own: u32,
+        log: *const u8,
+        users: *const u8,
+        users_len: usize,
+        kept: *mut u8,
+        path: *const u8,
+        call: *mut u8,
+        request: *mut u8,
+        request_len: usize,
+    ) -> Asked;
     pub fn kozbrax_take(
         servers: u32,
         own: u32,

@@ -1,4 +1,4 @@
-//! Two servers and one user: writes, an update, reads, a strike, and damaged answers.
+//! Two servers and one user: writes, an update, reads, a strike, a write that is given up, and damaged answers.
 mod common;
 
 use common::{servers, settings, Key, Server, User};
@@ -81,6 +81,64 @@ fn a_strike_of_a_later_position_is_refused() {
     }
     assert_eq!(asked.code, code::ENTRY_NOT_ALLOWED, "where the Update ends");
     assert_eq!(user.version(), 1, "the version");
+}
+
+/// Takes the answers of a Write until it is open and has had this many answers to its Reserves.
+fn reserved(user: &mut User, key: &Key, servers: &mut [Server], entry: &[u8], answers: usize) {
+    let mut asked = user.write_start(key, entry);
+    while user.kept[40] == 0 {
+        let answer = user.answer(key, servers, asked);
+        asked = user.take(key, &answer);
+    }
+    for _ in 0..answers {
+        let answer = user.answer(key, servers, asked);
+        asked = user.take(key, &answer);
+    }
+    assert_eq!((asked.code, asked.ended), (0, 0), "the Write is open and a request is out");
+}
+
+#[test]
+fn a_write_is_given_up_and_another_one_written() {
+    let key = Key::new(14);
+    let (mut user, mut servers) = written(&key, &[FIRST, SECOND]);
+    let (kept, heads) = (user.kept, servers.iter().map(|server| server.head[..39].to_vec()).collect::<Vec<_>>());
+    // Server 2 has accepted a Reserve, and the one to server 1 was not sent.
+    reserved(&mut user, &key, &mut servers, b"\x01given up", 1);
+    let asked = user.give_up_start(&key);
+    assert_eq!((asked.code, asked.server), (0, 1), "the first request is for server 1");
+    for start in [User::update_start, |user: &mut User, key: &Key| user.write_start(key, b"\x01given up")] {
+        assert_eq!(
+            start(&mut user, &key).code,
+            code::WRITE_IS_OPEN,
+            "once a give-up has begun it can only be repeated"
+        );
+    }
+    let asked = user.give_up_start(&key);
+    let request = user.request[..asked.length as usize].to_vec();
+    let answer = servers[0].answer_with(&key.public, &request, code::NOT_THE_RESERVED_HEAD);
+    let asked = user.take(&key, &answer);
+    assert_eq!((asked.code, asked.server), (0, 2), "server 1 is done, and server 2 is next");
+    user.finish(&key, &mut servers, asked);
+    assert_eq!(user.kept, kept, "what is kept is as before the Write");
+    assert!(servers.iter().zip(heads).all(|(server, head)| server.head[..39] == head), "the heads are as before");
+    assert_eq!(user.give_up_start(&key).code, code::NO_WRITE_TO_GIVE_UP, "nothing is open");
+    let asked = user.write_start(&key, b"\x01third");
+    user.finish(&key, &mut servers, asked);
+    assert_eq!(user.version(), 3, "the version after another Write");
+}
+
+#[test]
+fn a_write_is_not_given_up_once_its_entry_was_handed_out() {
+    let key = Key::new(15);
+    let (mut user, mut servers) = written(&key, &[FIRST, SECOND]);
+    reserved(&mut user, &key, &mut servers, b"\x01third", 3);
+    assert_eq!(user.request[2], 6, "a PutOperation");
+    assert_eq!(user.give_up_start(&key).code, code::NO_WRITE_TO_GIVE_UP, "with the PutOperation out");
+    let again = user.write_start(&key, b"\x01third");
+    assert_eq!((again.code, user.request[2]), (0, 5), "the Write is resumed at its first Reserve");
+    assert_eq!(user.give_up_start(&key).code, code::NO_WRITE_TO_GIVE_UP, "at a Reserve of the resumed Write");
+    user.finish(&key, &mut servers, again);
+    assert_eq!(user.version(), 3, "the version after the resumed Write");
 }
 
 #[test]

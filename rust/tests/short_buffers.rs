@@ -1,7 +1,7 @@
 //! Each lent buffer that is a byte too short is refused, and nothing is written.
 mod common;
 
-use common::{servers, Key, User};
+use common::{servers, Key, Server, User};
 use kozbrax::code::BUFFER_TOO_SHORT;
 use kozbrax::{Signer, ANSWER, ENTRY, HASH, NODE, PUBLIC_KEY, REQUEST, SIGNATURE, TREE};
 
@@ -70,6 +70,14 @@ fn a_users_starts() {
     step_refused(&mut user, "tree of a Write", |user| user.write_start(&key, b"\x01entry"));
 }
 
+/// An answer to a give-up, in a short buffer for the next request.
+fn give_up_refused(mut user: User, key: &Key, servers: &mut [Server]) {
+    let asked = user.give_up_start(key);
+    let answer = user.answer(key, servers, asked);
+    user.request.truncate(REQUEST - 1);
+    step_refused(&mut user, "request at a give-up's answer", |user| user.take(key, &answer));
+}
+
 #[test]
 fn a_users_steps() {
     let mut key = Key::new(11);
@@ -87,7 +95,9 @@ fn a_users_steps() {
     key.tree.push(last);
     user.request.truncate(REQUEST - 1);
     step_refused(&mut user, "request of an open Write", |user| user.take(&key, &answer));
+    step_refused(&mut user, "request of a give-up", |user| user.give_up_start(&key));
     user.request.push(0);
+    give_up_refused(user.clone(), &key, &mut servers.clone());
     asked = user.take(&key, &answer);
     user.finish(&key, &mut servers, asked);
     asked = user.read_start(&key, 1);

@@ -1,12 +1,13 @@
 //! One call with all that it is given: run on both sides, compared, and counted.
 use super::{Serve, LIBRARY, PLAIN};
-use crate::plain_server::{COMMIT, HASH, HEAD, NODE, OPERATION, PUT_NODE, PUT_OPERATION, RECORD, RESERVE, STATUS};
+use crate::plain_server::{COMMIT, GIVE_UP, HASH, HEAD, NODE, OPERATION, PLACE, PUT_NODE, PUT_OPERATION};
+use crate::plain_server::{RECORD, RESERVE, STATUS};
 use kozbrax::{Served, Settings};
 
 /// Bytes around each lent buffer that no side is given.
 const MARGIN: usize = 16;
 
-pub const CODES: [u32; 12] = [0, 1, 2, 3, 4, 5, 6, 7, 8, 9, 21, 22];
+pub const CODES: [u32; 13] = [0, 1, 2, 3, 4, 5, 6, 7, 8, 9, 21, 22, 27];
 
 #[derive(Clone)]
 pub struct Case {
@@ -34,6 +35,10 @@ fn with_margins(bytes: &[u8]) -> Vec<u8> {
     [&[0xa5; MARGIN], bytes, &[0xa5; MARGIN]].concat()
 }
 
+fn place(p: u32, l: u8, author: u16, digest: &[u8; HASH]) -> Vec<u8> {
+    [&p.to_be_bytes()[..], &[l], &author.to_be_bytes(), digest].concat()
+}
+
 fn within(bytes: &mut [u8]) -> &mut [u8] {
     let end = bytes.len() - MARGIN;
     &mut bytes[MARGIN..end]
@@ -57,24 +62,34 @@ impl Case {
     }
 
     pub fn head_digest(&self) -> [u8; HASH] {
-        self.head[7..].try_into().expect("32 bytes")
+        self.head[7..PLACE].try_into().expect("32 bytes")
     }
 
+    /// The head but for its earlier one, which stays.
     pub fn set_head(&mut self, p: u32, l: u8, author: u16, digest: &[u8; HASH]) {
-        let fields = [&p.to_be_bytes()[..], &[l], &author.to_be_bytes(), digest].concat();
-        self.head = fields.try_into().expect("39 bytes");
+        self.head[..PLACE].copy_from_slice(&place(p, l, author, digest));
+    }
+
+    /// The earlier head, which is known.
+    pub fn set_earlier(&mut self, p: u32, l: u8, author: u16, digest: &[u8; HASH]) {
+        self.head[PLACE] = 1;
+        self.head[PLACE + 1..].copy_from_slice(&place(p, l, author, digest));
+    }
+
+    pub fn forget_earlier(&mut self) {
+        self.head[PLACE..].fill(0);
     }
 
     pub fn run(&self, serve: Serve) -> After {
         let [mut head, mut store, mut answer] = [&self.head[..], &self.store, &self.answer].map(with_margins);
-        let lent: &mut [u8; HEAD] = within(&mut head).try_into().expect("39 bytes");
+        let lent: &mut [u8; HEAD] = within(&mut head).try_into().expect("79 bytes");
         let served = serve(&self.settings(), lent, within(&mut store), self.used, &self.request, within(&mut answer));
         After { served, head, store, answer }
     }
 
     /// The state that a call left, for the next one.
     pub fn take_over(&mut self, mut after: After) {
-        self.head = within(&mut after.head).try_into().expect("39 bytes");
+        self.head = within(&mut after.head).try_into().expect("79 bytes");
         self.store = within(&mut after.store).to_vec();
         self.used = after.served.used;
     }
@@ -111,7 +126,7 @@ fn hex(bytes: &[u8]) -> String {
 /// How often each code came up for each kind of request; kind 0 stands for every kind that is none.
 #[derive(Default)]
 pub struct Tally {
-    counts: [[usize; CODES.len()]; 9],
+    counts: [[usize; CODES.len()]; NAMES.len()],
 }
 
 impl Tally {
@@ -125,7 +140,7 @@ impl Tally {
             plain.print("plain");
             std::process::exit(1);
         }
-        let kind = case.request.get(2).copied().filter(|kind| *kind <= COMMIT).unwrap_or(0);
+        let kind = case.request.get(2).copied().filter(|kind| *kind <= GIVE_UP).unwrap_or(0);
         let code = CODES.iter().position(|code| *code == ours.served.code).expect("a code of the server");
         self.counts[usize::from(kind)][code] += 1;
         ours
@@ -133,8 +148,13 @@ impl Tally {
 
     /// As `compare`, for a call that is to be accepted; the case then has the state that it left.
     pub fn accepted(&mut self, case: &mut Case) {
+        self.answered(case, 0);
+    }
+
+    /// As `compare`, for a call that is to have this code; the case then has the state that it left.
+    pub fn answered(&mut self, case: &mut Case, code: u32) {
         let after = self.compare(case);
-        assert_eq!(after.served.code, 0, "an honest request was refused");
+        assert_eq!(after.served.code, code, "the code of a request of an honest log");
         case.take_over(after);
     }
 
@@ -172,7 +192,7 @@ impl Tally {
     }
 }
 
-const NAMES: [(u8, &str); 9] = [
+const NAMES: [(u8, &str); 10] = [
     (0, "no kind"),
     (STATUS, "Status"),
     (NODE, "Node"),
@@ -182,9 +202,10 @@ const NAMES: [(u8, &str); 9] = [
     (PUT_OPERATION, "PutOperation"),
     (PUT_NODE, "PutNode"),
     (COMMIT, "Commit"),
+    (GIVE_UP, "give-up"),
 ];
 
-/// Document 01, 'Server': the codes that a request of this kind may have.
+/// Document 01, 'Server', and document 02, e: the codes that a request of this kind may have.
 fn codes_of(kind: u8) -> &'static [u32] {
     match kind {
         0 => &[1, 21, 22],
@@ -192,6 +213,7 @@ fn codes_of(kind: u8) -> &'static [u32] {
         NODE | OPERATION | RECORD => &[0, 1, 2, 3, 8, 21, 22],
         RESERVE => &[0, 1, 2, 3, 4, 21, 22],
         COMMIT => &[0, 1, 2, 3, 5, 6, 7, 9, 21, 22],
+        GIVE_UP => &[0, 1, 2, 3, 21, 22, 27],
         _ => &[0, 1, 2, 3, 5, 6, 9, 21, 22],
     }
 }

@@ -1,7 +1,7 @@
 //! Damage to a request and to what stands around it. Some of it happens to leave the call as valid as it was.
 use super::case::Case;
 use crate::plain_lms::KEY;
-use crate::plain_server::{COMMIT, HEAD, LAST_POSITION, MOST_USERS, RECORD_HEADER, REQUEST_HEADER};
+use crate::plain_server::{GIVE_UP, HEAD, LAST_POSITION, MOST_USERS, PLACE, RECORD_HEADER, REQUEST_HEADER};
 use crate::sample::Random;
 
 /// One field altered, the length changed, or other bytes altogether.
@@ -11,7 +11,7 @@ pub fn request(case: &mut Case, random: &mut Random) {
     let request = &mut case.request;
     match random.below(12) {
         0 => flip_a_bit(request, 0..2, random),
-        1 => put(request, 2, &[random.below(COMMIT as usize + 2) as u8]),
+        1 => put(request, 2, &[random.below(GIVE_UP as usize + 2) as u8]),
         2 => flip_a_bit(request, 3..19, random),
         3 => put(request, 19, &author(count, random).to_be_bytes()),
         4 => {
@@ -84,12 +84,17 @@ fn users(case: &mut Case, random: &mut Random) {
 
 fn head(case: &mut Case, random: &mut Random) {
     let (p, count) = (case.head_position(), case.count());
-    match random.below(6) {
+    match random.below(11) {
         0 => put(&mut case.head, 0, &near(p, random).to_be_bytes()),
         1 => put(&mut case.head, 0, &(LAST_POSITION + 1 + random.below(1000) as u32).to_be_bytes()),
         2 => put(&mut case.head, 4, &[random.pick(&[0, 1, 20, 21, 32, 255])]),
         3 => put(&mut case.head, 5, &author(count, random).to_be_bytes()),
-        4 => flip_a_bit(&mut case.head, 7..HEAD, random),
+        4 => flip_a_bit(&mut case.head, 7..PLACE, random),
+        5 => put(&mut case.head, PLACE, &[random.pick(&[0, 1, 2, 3, 255])]),
+        6 => put(&mut case.head, PLACE + 1, &random.pick(&[0, p, p.wrapping_sub(1), p.wrapping_add(1)]).to_be_bytes()),
+        7 => put(&mut case.head, PLACE + 5, &[random.pick(&[0, 1, 20, 21, 32, 255])]),
+        8 => put(&mut case.head, PLACE + 6, &author(count, random).to_be_bytes()),
+        9 => flip_a_bit(&mut case.head, PLACE..HEAD, random),
         _ => case.head = random.array(),
     }
 }

@@ -4,8 +4,8 @@ use super::damage;
 use super::message::{body, levels, owned_levels, position, signed_body, Message};
 use crate::lms::Key;
 use crate::plain_lms::KEY;
-use crate::plain_server::{lg, owner, COMMIT, HASH, HEAD, LAST_POSITION, LONGEST_ANSWER, MOST_USERS, RECORD_HEADER};
-use crate::plain_server::{NODE, OPERATION, PUT_NODE, PUT_OPERATION, RECORD, RESERVE, STATUS};
+use crate::plain_server::{lg, owner, COMMIT, GIVE_UP, HASH, HEAD, LAST_POSITION, LONGEST_ANSWER, MOST_USERS};
+use crate::plain_server::{NODE, OPERATION, PUT_NODE, PUT_OPERATION, RECORD, RECORD_HEADER, RESERVE, STATUS};
 use crate::sample::Random;
 
 pub struct Exchange<'a> {
@@ -51,7 +51,7 @@ impl<'a> Exchange<'a> {
         exchange
     }
 
-    /// A fresh head, or any in range.
+    /// A fresh head, or any in range; such a one mostly has an earlier one.
     fn choose_head(&mut self) {
         if self.random.chance(50) {
             return;
@@ -61,6 +61,13 @@ impl<'a> Exchange<'a> {
         let author = self.any_author();
         let digest = self.random.array();
         self.now.set_head(p, l, author, &digest);
+        if self.random.chance(70) {
+            let earlier = self.random.below(p as usize) as u32;
+            let l = self.random.below(lg(earlier) as usize + 1) as u8;
+            let author = self.any_author();
+            let digest = self.random.array();
+            self.now.set_earlier(earlier, l, author, &digest);
+        }
     }
 
     /// A few records about the head's position and elsewhere, some for the same node; then a free part of any length.
@@ -165,7 +172,8 @@ impl<'a> Exchange<'a> {
                 return self.sent[i].clone();
             }
             40..65 if !self.stored.is_empty() => self.pull_of_stored(),
-            65..75 => self.reserve_about_head(),
+            65..73 => self.about_head(RESERVE),
+            73..75 => self.about_head(GIVE_UP),
             75..88 => self.put_at_head(),
             _ => self.anywhere(),
         };
@@ -190,17 +198,18 @@ impl<'a> Exchange<'a> {
         self.plan.pop().expect("it is not empty")
     }
 
-    /// Reserve for each level, PutOperation, PutNode for each full level from 1, Commit; those that this server owns, and
-    /// some that it does not. Digests and hashes are random bytes, since a server never looks into them.
+    /// Reserve for each level, PutOperation, PutNode for each full level from 1, Commit, or now and then some Reserves and a give-up; those
+    /// that this server owns, and some that it does not. Digests and hashes are random bytes, since a server never looks into them.
     fn plan_write(&mut self, p: u32) {
         self.writing = p;
         let author = self.any_author();
         let digest = self.random.bytes(HASH);
-        let nodes = [RESERVE, PUT_OPERATION, PUT_NODE, COMMIT];
-        for (kind, l) in nodes.into_iter().flat_map(|kind| levels(kind, p).into_iter().map(move |l| (kind, l))) {
+        let nodes: &[u8] =
+            if self.random.chance(20) { &[RESERVE, GIVE_UP] } else { &[RESERVE, PUT_OPERATION, PUT_NODE, COMMIT] };
+        for (kind, l) in nodes.iter().flat_map(|kind| levels(*kind, p).into_iter().map(|l| (*kind, l))) {
             if owner(p, l, self.now.servers) == self.now.own || self.random.chance(2) {
                 let body = match kind {
-                    RESERVE => digest.clone(),
+                    RESERVE | GIVE_UP => digest.clone(),
                     COMMIT => self.commit_body(author, p, &digest),
                     _ => body(kind, &mut self.random),
                 };
@@ -232,8 +241,8 @@ impl<'a> Exchange<'a> {
         Message { kind, author: self.any_author(), p, l, body: Vec::new() }
     }
 
-    /// At the head's position with its author and digest or others, or at a position beside it.
-    fn reserve_about_head(&mut self) -> Message {
+    /// A Reserve or a give-up at the head's position with its author and digest or others, or at a position beside it.
+    fn about_head(&mut self, kind: u8) -> Message {
         let head = self.now.head_position();
         let beside = (head + self.random.below(10) as u32).saturating_sub(4);
         let p = if self.random.chance(70) { head } else { beside }.clamp(1, LAST_POSITION);
@@ -241,7 +250,7 @@ impl<'a> Exchange<'a> {
         let other_digest = self.random.bytes(HASH);
         let author = if self.random.chance(80) { self.now.head_author() } else { other_author };
         let body = if self.random.chance(80) { self.now.head_digest().to_vec() } else { other_digest };
-        Message { kind: RESERVE, author, p, l: self.a_level(RESERVE, p), body }
+        Message { kind, author, p, l: self.a_level(kind, p), body }
     }
 
     /// A put or Commit at the head's position: of a new body, or of one that is stored for the node already.
@@ -266,7 +275,7 @@ impl<'a> Exchange<'a> {
 
     /// Any kind at any position, at a node that this server owns if one turns up soon.
     fn anywhere(&mut self) -> Message {
-        let kind = STATUS + self.random.below(COMMIT as usize) as u8;
+        let kind = STATUS + self.random.below(GIVE_UP as usize) as u8;
         let author = self.any_author();
         if kind == STATUS {
             return Message { kind, author, p: 0, l: 0, body: Vec::new() };

@@ -1,9 +1,10 @@
-//! A log written without a fault on all its servers: each request is accepted, and then everything stored is found.
+//! A log written without a fault on all its servers: each request is accepted, and then everything stored is found. Before each
+//! write another one is reserved in part and given up.
 use super::case::{Case, Tally};
 use super::message::{body, levels, signed_body, Message};
 use crate::lms::Key;
-use crate::plain_server::{owner, COMMIT, HASH, HEAD, LONGEST_ANSWER, NODE, OPERATION, PUT_NODE, PUT_OPERATION};
-use crate::plain_server::{RECORD, RESERVE, STATUS};
+use crate::plain_server::{owner, COMMIT, GIVE_UP, HASH, HEAD, LONGEST_ANSWER, NODE, OPERATION, PUT_NODE};
+use crate::plain_server::{PLACE, PUT_OPERATION, RECORD, RESERVE, STATUS};
 use crate::sample::Random;
 
 const LAST: u32 = 33;
@@ -38,6 +39,7 @@ impl<'a> Log<'a> {
     /// Positions 1 to 33, the authors taking turns; then pulls of all their nodes, entries and records.
     pub fn run(&mut self) {
         for p in 1..=LAST {
+            self.give_up(p);
             self.write(p);
         }
         for p in 1..=LAST {
@@ -47,6 +49,32 @@ impl<'a> Log<'a> {
                 }
             }
         }
+    }
+
+    /// A write of which some Reserves are handed out, and the last of them is lost for each second position: each server that
+    /// was sent one is told once, in number order. All heads are as before then, and the same give-ups are 27.
+    fn give_up(&mut self, p: u32) {
+        let before: Vec<_> = self.servers.iter().map(|server| server.head).collect();
+        let (author, digest) = (1 + (p % 2) as u16, self.random.bytes(HASH));
+        let sent = 1 + self.random.below(levels(RESERVE, p).len()) as u8;
+        let lost = p % 2 == 1;
+        for l in 0..sent - u8::from(lost) {
+            self.send(Message { kind: RESERVE, author, p, l, body: digest.clone() });
+        }
+        for own in 1..=self.servers.len() as u32 {
+            let owned = |l: &u8| owner(p, *l, before.len() as u32) == own;
+            let Some(l) = (0..sent).rev().find(owned) else { continue };
+            let arrived = (0..sent - u8::from(lost)).any(|l| owned(&l));
+            let server = &mut self.servers[own as usize - 1];
+            server.request = Message { kind: GIVE_UP, author, p, l, body: digest.clone() }.request(&server.log);
+            self.tally.answered(server, if arrived { 0 } else { 27 });
+            self.tally.answered(server, 27);
+        }
+        let after: Vec<_> = self.servers.iter().map(|server| server.head).collect();
+        assert!(
+            before.iter().zip(&after).all(|(before, after)| before[..PLACE] == after[..PLACE]),
+            "heads after a give-up"
+        );
     }
 
     fn write(&mut self, p: u32) {

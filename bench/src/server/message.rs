@@ -2,7 +2,7 @@
 use crate::lms::Key;
 use crate::plain_lms::SIGNATURE;
 use crate::plain_server::{lg, owner, COMMIT, LAST_POSITION, NODE, OPERATION, PUT_NODE, PUT_OPERATION, RECORD, STATUS};
-use crate::plain_server::{HASH, LONGEST_ENTRY, RECORD_MARK, REQUEST_MARK, RESERVE, SIGNED_MARK};
+use crate::plain_server::{GIVE_UP, HASH, LONGEST_ENTRY, RECORD_MARK, REQUEST_MARK, RESERVE, SIGNED_MARK};
 use crate::sample::Random;
 
 #[derive(Clone)]
@@ -30,7 +30,7 @@ impl Message {
 /// A body of the length that the kind asks for, of random bytes.
 pub fn body(kind: u8, random: &mut Random) -> Vec<u8> {
     let length = match kind {
-        RESERVE | PUT_NODE => HASH,
+        RESERVE | GIVE_UP | PUT_NODE => HASH,
         PUT_OPERATION if random.chance(5) => LONGEST_ENTRY - random.below(2),
         PUT_OPERATION => 1 + random.below(60),
         COMMIT => HASH + SIGNATURE,

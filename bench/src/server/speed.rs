@@ -4,8 +4,10 @@ use super::message::{signed_body, Message};
 use super::{Serve, LIBRARY, PLAIN};
 use crate::lms::Key;
 use crate::plain_lms::SIGNATURE;
-use crate::plain_server::{lg, owner, COMMIT, HASH, HEAD, LAST_POSITION, LONGEST_ANSWER, NODE, OPERATION, PUT_NODE};
-use crate::plain_server::{PUT_OPERATION, RECORD, RECORD_HEADER, REQUEST_HEADER, RESERVE, SIGNED_MARK, STATUS};
+use crate::plain_server::{lg, owner, COMMIT, GIVE_UP, HASH, HEAD, LAST_POSITION, LONGEST_ANSWER, NODE, OPERATION};
+use crate::plain_server::{
+    PUT_NODE, PUT_OPERATION, RECORD, RECORD_HEADER, REQUEST_HEADER, RESERVE, SIGNED_MARK, STATUS,
+};
 use crate::sample::Random;
 use crate::timing::{Clock, Race};
 use crate::{numbers, plain_lms, stack};
@@ -79,7 +81,7 @@ fn call(key: &Key, place: Place, kind: u8, records: &[u8]) -> Case {
     let digest = random.array();
     let body = match kind {
         COMMIT => signed_body(key, &log, P, &digest, &mut random),
-        RESERVE => digest.to_vec(),
+        RESERVE | GIVE_UP => digest.to_vec(),
         PUT_NODE => random.bytes(HASH),
         PUT_OPERATION => random.bytes(1024),
         _ => Vec::new(),
@@ -97,16 +99,17 @@ fn call(key: &Key, place: Place, kind: u8, records: &[u8]) -> Case {
         answer: vec![0; LONGEST_ANSWER],
     };
     case.set_head(P, l, 1, &digest);
+    case.set_earlier(P - 1, 0, 1, &digest);
     case
 }
 
-/// The same call again and again: the used length is given anew each time, so that what one stores the next does not see.
+/// The same call again and again: head and used length are given anew each time, so that what one changes the next does not see.
 fn again(case: &mut Case, serve: Serve) -> Served {
     let settings = Settings { servers: case.servers, own: case.own, log: &case.log, users: &case.users };
-    let (head, store, answer) = (&mut case.head, &mut case.store, &mut case.answer);
+    let (mut head, store, answer) = (case.head, &mut case.store, &mut case.answer);
     serve(
         black_box(&settings),
-        black_box(head),
+        black_box(&mut head),
         black_box(store),
         case.used,
         black_box(&case.request),
@@ -182,6 +185,7 @@ fn print_stack(key: &Key) {
         ("PutOperation", PUT_OPERATION, PUT_NODE),
         ("PutNode", PUT_NODE, PUT_OPERATION),
         ("Commit", COMMIT, PUT_NODE),
+        ("give-up", GIVE_UP, PUT_NODE),
     ] {
         let found = call(key, PLACE, stored, &[]);
         let body = found.request[REQUEST_HEADER..].to_vec();

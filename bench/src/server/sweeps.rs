@@ -1,14 +1,14 @@
-//! Calls that take one thing through all its values or lengths while the rest stays valid.
+//! Calls that take one thing through all its values or lengths while the rest stays valid; give_ups.rs has more of them.
 use super::case::{Case, Tally};
 use super::message::{body, levels, signed_body, Message};
 use crate::lms::Key;
 use crate::plain_lms::KEY;
-use crate::plain_server::{lg, owner, COMMIT, HASH, HEAD, LAST_POSITION, LONGEST_ANSWER, MOST_USERS, NODE, OPERATION};
-use crate::plain_server::{PUT_NODE, PUT_OPERATION, RECORD_HEADER, REQUEST_HEADER, RESERVE, STATUS};
+use crate::plain_server::{lg, owner, COMMIT, GIVE_UP, HASH, HEAD, LAST_POSITION, LONGEST_ANSWER, MOST_USERS};
+use crate::plain_server::{NODE, OPERATION, PUT_NODE, PUT_OPERATION, RECORD_HEADER, REQUEST_HEADER, RESERVE, STATUS};
 use crate::sample::Random;
 
-const SERVERS: u32 = 4;
-const KINDS: std::ops::RangeInclusive<u8> = STATUS..=COMMIT;
+pub const SERVERS: u32 = 4;
+const KINDS: std::ops::RangeInclusive<u8> = STATUS..=GIVE_UP;
 
 pub struct Sweeps<'a> {
     pub tally: &'a mut Tally,
@@ -30,6 +30,11 @@ impl Sweeps<'_> {
             ("numbers of servers and own numbers", Self::server_numbers),
             ("every length of the user list to 66 users, and longer ones", Self::user_lengths),
             ("heads in and out of range", Self::heads),
+            ("earlier heads in and out of range", Self::earlier_heads),
+            ("every value of each byte of a head, three kinds", Self::head_bytes),
+            ("a bit of each byte of a give-up's digest", Self::give_up_bits),
+            ("give-ups of the head's and other positions, authors and digests, repeated", Self::give_ups),
+            ("a stored record of kind 9", Self::stored_give_up),
         ] {
             let before = self.tally.total();
             sweep(self);
@@ -37,8 +42,9 @@ impl Sweeps<'_> {
         }
     }
 
-    /// A valid call: the node is the server's own, the head is at p with user 1, the node's records are not stored yet.
-    fn valid(&mut self, kind: u8, p: u32, l: u8) -> Case {
+    /// A valid call: the node is the server's own, the head is at p with user 1, the one before it at p - 1 with user 2, the node's
+    /// records are not stored yet.
+    pub fn valid(&mut self, kind: u8, p: u32, l: u8) -> Case {
         let random = &mut self.random;
         let users = self.keys.iter().flat_map(|key| key.public.clone()).collect();
         let log = random.array();
@@ -55,9 +61,10 @@ impl Sweeps<'_> {
         };
         let digest = random.array();
         case.set_head(p, lg(p) as u8, 1, &digest);
+        case.set_earlier(p - 1, 0, 2, &random.array());
         let body = match kind {
             COMMIT => signed_body(&self.keys[0], &log, p, &digest, random),
-            RESERVE => digest.to_vec(),
+            RESERVE | GIVE_UP => digest.to_vec(),
             _ => body(kind, random),
         };
         let (p, l) = if kind == STATUS { (0, 0) } else { (p, l) };
@@ -66,7 +73,7 @@ impl Sweeps<'_> {
     }
 
     /// The valid call of a kind at position 8, whose node of each level is full.
-    fn valid_at_8(&mut self, kind: u8) -> Case {
+    pub fn valid_at_8(&mut self, kind: u8) -> Case {
         let l = *levels(kind, 8).last().expect("each kind has a level at 8");
         self.valid(kind, 8, l)
     }
@@ -215,6 +222,7 @@ impl Sweeps<'_> {
 
     fn heads(&mut self) {
         let mut case = self.valid_at_8(STATUS);
+        case.forget_earlier();
         let count = case.count() as u16;
         for p in positions() {
             for l in (0..=22).chain([32, 63, 64, 128, 255]) {

@@ -10,6 +10,9 @@ use kozbrax::{Asked, Lent, Settings, Signing, CALL, HASHES, HELD, KEPT, PATH};
 /// Bytes around each lent buffer that no side is given.
 const MARGIN: usize = 16;
 
+/// Where the bytes begin that are kept of an open write.
+pub const OF_WRITE: usize = 40;
+
 /// The lent buffers.
 #[derive(Clone, PartialEq)]
 pub struct Memory {
@@ -28,6 +31,7 @@ pub enum Step {
     Update,
     Write { entry: Vec<u8>, randomizer: [u8; 32] },
     Read { position: u32 },
+    GiveUp,
     Take { answer: Vec<u8> },
 }
 
@@ -79,6 +83,15 @@ impl Memory {
         if version > 0 {
             self.kept[4..36].copy_from_slice(&table.digest(version));
         }
+    }
+
+    /// Whether a write is open, whether it is signed, and how far it and its give-up have got: levels, put, begun, done.
+    pub fn set_write(&mut self, of_write: [u8; 6]) {
+        self.kept[OF_WRITE..].copy_from_slice(&of_write);
+    }
+
+    pub fn write(&self) -> [u8; 6] {
+        self.kept[OF_WRITE..].try_into().expect("6 bytes")
     }
 
     pub fn version(&self) -> u32 {
@@ -177,6 +190,7 @@ impl<'a> Case<'a> {
             Step::Update => (side.update_start)(&settings, lent),
             Step::Write { entry, randomizer } => (side.write_start)(&settings, &signing, entry, randomizer, lent),
             Step::Read { position } => (side.read_start)(&settings, *position, lent),
+            Step::GiveUp => (side.give_up_start)(&settings, lent),
             Step::Take { answer } => (side.take)(&settings, &signing, answer, lent),
         }
     }
@@ -205,6 +219,7 @@ impl<'a> Case<'a> {
                 println!("start of a Write of {entry:02x?} with randomizer {randomizer:02x?}")
             }
             Step::Read { position } => println!("start of a Read of {position}"),
+            Step::GiveUp => println!("start of a give-up"),
             Step::Take { answer } => println!("answer ({} bytes) {answer:02x?}", answer.len()),
         }
         self.memory.clone().print("before");
@@ -216,28 +231,32 @@ impl<'a> Case<'a> {
             (Step::Update, _) => 0,
             (Step::Write { .. }, _) => 2,
             (Step::Read { .. }, _) => 4,
+            (Step::GiveUp, _) => 6,
             (Step::Take { .. }, 1) => 1,
             (Step::Take { .. }, 2) if self.memory.call[46] <= 1 => 3,
             (Step::Take { .. }, 3) => 5,
-            (Step::Take { .. }, _) => 6,
+            (Step::Take { .. }, 4) if self.memory.call[1] <= 1 => 7,
+            (Step::Take { .. }, _) => 8,
         }
     }
 }
 
 /// The kinds of steps, and the codes that documents 01 and 02 let each have.
-const ROWS: [(&str, &[u32]); 8] = [
+const ROWS: [(&str, &[u32]); 10] = [
     ("Update, start", &[0, 18, 21, 22]),
     ("Update, answer", &[0, 10, 11, 12, 13, 14, 15, 16, 18, 21, 22]),
     ("Write, start", &[0, 17, 18, 19, 21, 22, 26]),
     ("Write, answer", &[0, 10, 11, 12, 13, 14, 15, 16, 17, 18, 19, 20, 21, 22]),
     ("Read, start", &[0, 21, 22, 24]),
     ("Read, answer", &[0, 10, 11, 21, 22, 23, 24]),
+    ("give-up, start", &[0, 21, 22, 28]),
+    ("give-up, answer", &[0, 10, 11, 21, 22, 28]),
     ("answer, no call", &[10, 21, 22]),
     ("settled", &[0, 22, 24]),
 ];
-const SETTLED: usize = 7;
+const SETTLED: usize = 9;
 
-const CODES: [u32; 17] = [0, 10, 11, 12, 13, 14, 15, 16, 17, 18, 19, 20, 21, 22, 23, 24, 26];
+const CODES: [u32; 18] = [0, 10, 11, 12, 13, 14, 15, 16, 17, 18, 19, 20, 21, 22, 23, 24, 26, 28];
 
 /// How often each code came up for each kind of step.
 #[derive(Default)]
@@ -265,7 +284,7 @@ impl Tally {
     }
 
     pub fn compare_settled(&mut self, case: &Case, position: u32) {
-        let kept = case.memory.kept[..].try_into().expect("42 bytes");
+        let kept = case.memory.kept[..].try_into().expect("46 bytes");
         let [ours, plain] =
             [LIBRARY, PLAIN].map(|side| (side.settled)(&case.shared.settings(case.own), kept, position));
         if ours != plain {

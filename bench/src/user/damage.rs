@@ -23,10 +23,15 @@ pub fn answer(honest: &[u8], seen: &[Vec<u8>], servers: u32, random: &mut Random
         }
         7 => return random.pick(&seen.iter().collect::<Vec<_>>()).clone(),
         8 => put(&mut answer, 3, random.below(18) as u8),
-        9 => put(&mut answer, ANSWER_HEADER - 1, random.pick(&[1, 2, 3, 4, 5, 6, 7, 8, 9, 10, 11, 22, 128, 255])),
+        9 => put(
+            &mut answer,
+            ANSWER_HEADER - 1,
+            random.pick(&[1, 2, 3, 4, 5, 6, 7, 8, 9, 10, 11, 22, 26, 27, 28, 128, 255]),
+        ),
         10 => {
             answer.truncate(ANSWER_HEADER);
-            put(&mut answer, ANSWER_HEADER - 1, random.below(12) as u8);
+            let code = random.below(12) as u8;
+            put(&mut answer, ANSWER_HEADER - 1, random.pick(&[code, code, 27]));
         }
         11 => {
             let other = random.pick(&[0, 1, 2, 3, 4, 5, 6, 31, 32, 33, 1025, 1026, 1027, 2541, 2542, 2543]);
@@ -99,7 +104,7 @@ fn kept(case: &mut Case, random: &mut Random) {
     let taking = matches!(case.step, Step::Take { .. });
     let call = case.memory.call.clone();
     let kept = &mut case.memory.kept;
-    match random.below(6) {
+    match random.below(9) {
         0 => kept[..4].copy_from_slice(&random.pick(&[LAST_POSITION + 1, 1 << 31, u32::MAX]).to_be_bytes()),
         1 => kept[36..40].copy_from_slice(&random.pick(&[1025u32, 1 << 16, u32::MAX]).to_be_bytes()),
         2 => kept[40] = random.pick(&[2, 3, 128, 255]),
@@ -109,12 +114,26 @@ fn kept(case: &mut Case, random: &mut Random) {
             kept[..4].copy_from_slice(&random.pick(&[0, position - 1]).to_be_bytes());
         }
         4 if taking && call[0] == 2 => kept[36..40].copy_from_slice(&1024u32.to_be_bytes()),
-        5 if taking && (call[0] == 1 || call[0] == 2) => kept[40] ^= 1,
+        5 if taking && (call[0] == 1 || call[0] == 2) => {
+            let (opened, signed) = (kept[40] ^ 1, kept[41]);
+            case.memory.set_write([opened, signed, opened, 0, 0, 0]);
+        }
+        6 => kept[42..].copy_from_slice(&progress(random)),
+        7 => kept[42 + random.below(4)] = random.pick(&[0, 1, 2, 3, 17, 22, 255]),
+        8 if taking && call[0] == 4 => {
+            let [put, begun] = random.pick(&[[1, 0], [0, 0], [1, 1]]);
+            kept[43..].copy_from_slice(&[put, begun, 0]);
+        }
         _ => {
             kept[..4].copy_from_slice(&LAST_POSITION.to_be_bytes());
             kept[40] = 1;
         }
     }
+}
+
+/// How far an open write and its give-up have got: something in range or about it.
+fn progress(random: &mut Random) -> [u8; 4] {
+    [random.below(24) as u8, random.below(3) as u8, random.below(3) as u8, random.pick(&[0, 1, 2, 3, 16, 17])]
 }
 
 fn put(bytes: &mut [u8], at: usize, value: u8) {

@@ -68,7 +68,7 @@ impl<'a> Exchange<'a> {
         tally.compare(&self.users[user].with(Step::Take { answer }));
     }
 
-    /// Now and then another number, since a key has few, or the mark of a signed write where none is open.
+    /// Now and then another number, since a key has few, or marks of a signed write and of its give-up where none is open.
     fn alter_kept(&mut self, user: usize) {
         let kept = &mut self.users[user].memory.kept;
         if self.random.chance(10) {
@@ -77,6 +77,7 @@ impl<'a> Exchange<'a> {
         }
         if kept[40] == 0 && self.random.chance(5) {
             kept[41] = 1;
+            kept[42..].copy_from_slice(&[self.random.below(256) as u8, 1, 1, self.random.below(256) as u8]);
         }
     }
 
@@ -120,6 +121,7 @@ impl<'a> Exchange<'a> {
         if self.random.chance(3) {
             let mut case = self.users[user].with(Step::Take { answer: Vec::new() });
             case.memory.call[0] = self.random.pick(&[0, 4, 5, 128, 255]);
+            case.memory.call[1] = case.memory.call[1].max(2);
             tally.compare(&case);
         }
         if self.random.chance(10) {
@@ -143,10 +145,15 @@ impl<'a> Exchange<'a> {
         tally.compare(&case);
     }
 
-    /// Mostly what is valid: the open write again where one is open, else any call.
+    /// Mostly what is valid: the open write again where one is open, or its give-up, which is all that goes once it has begun;
+    /// else any call.
     fn start(&mut self, user: usize) -> Step {
-        let opened = self.users[user].memory.kept[40] == 1;
-        let again = opened && self.random.chance(80);
+        let [opened, _, _, put, begun, _] = self.users[user].memory.write();
+        let give_up = if opened == 0 || put == 1 { 2 } else { 15 + 40 * usize::from(begun) };
+        if self.random.chance(give_up) {
+            return Step::GiveUp;
+        }
+        let again = opened == 1 && self.random.chance(80);
         match self.random.below(100) {
             0..45 if again => self.write(self.entries[user].clone()),
             0..45 => {

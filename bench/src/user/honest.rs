@@ -30,7 +30,7 @@ pub fn steps<'a>(
 }
 
 /// The last of these steps and the count of answers.
-fn complete(tally: &mut Tally, case: &mut Case, step: Step, servers: &mut dyn Servers) -> (After, usize) {
+pub fn complete(tally: &mut Tally, case: &mut Case, step: Step, servers: &mut dyn Servers) -> (After, usize) {
     let (steps, after) = steps(tally, case, step, servers);
     (after, steps.len())
 }
@@ -69,6 +69,7 @@ impl<'a> MadeUpLog<'a> {
             let v = self.random.below(p as usize) as u32;
             self.write(v, p);
             self.resume(p);
+            self.give_up(p);
         }
         self.update(1, LAST_POSITION - 1);
         for _ in 0..500 {
@@ -79,7 +80,7 @@ impl<'a> MadeUpLog<'a> {
     }
 
     /// Servers of 2 to 16 with the log up to the last position, and a user that keeps the version.
-    fn setup(&mut self, version: u32, last: u32) -> (Case<'a>, MadeUp<'a>) {
+    pub fn setup(&mut self, version: u32, last: u32) -> (Case<'a>, MadeUp<'a>) {
         let servers = 2 + self.random.below(15) as u32;
         let users = self.keys.iter().flat_map(|key| key.public.clone()).collect();
         let shared = Shared { servers, log: self.random.array(), users };
@@ -105,7 +106,7 @@ impl<'a> MadeUpLog<'a> {
         assert_eq!(case.memory.entry[..after.asked.entry as usize], entry[..], "the entry read");
     }
 
-    fn a_write(&mut self) -> Step {
+    pub fn a_write(&mut self) -> Step {
         Step::Write { entry: [&[1][..], &self.random.bytes(40)].concat(), randomizer: self.random.array() }
     }
 
@@ -154,11 +155,11 @@ pub fn run(tally: &mut Tally, keys: &[Key], seed: u64) {
 }
 
 pub struct Log<'a> {
-    tally: &'a mut Tally,
-    random: Random,
-    users: Vec<Case<'a>>,
-    group: Group,
-    written: Vec<(u16, Vec<u8>)>,
+    pub tally: &'a mut Tally,
+    pub random: Random,
+    pub users: Vec<Case<'a>>,
+    pub group: Group,
+    pub written: Vec<(u16, Vec<u8>)>,
 }
 
 impl<'a> Log<'a> {
@@ -175,6 +176,8 @@ impl<'a> Log<'a> {
         for _ in 1..=33 {
             let user = self.random.below(self.users.len());
             self.update(user);
+            let user = self.random.below(self.users.len());
+            self.give_up(user);
             let user = self.random.below(self.users.len());
             self.write(user);
             self.read(user);

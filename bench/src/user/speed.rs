@@ -23,6 +23,7 @@ const NOTHING: Side = Side {
     update_start: |_, _| NO_ANSWER,
     write_start: |_, _, _, _, _| NO_ANSWER,
     read_start: |_, _, _| NO_ANSWER,
+    give_up_start: |_, _| NO_ANSWER,
     take: |_, _, _, _| NO_ANSWER,
     settled: |_, _, _| SettledAnswer { code: 0, settled: 0 },
 };
@@ -41,17 +42,19 @@ pub fn print(keys: &[Key], table: &Table) {
     println!("  {:>34}  {}", "settled", stack_of_settled(&calls[0].1));
 }
 
-/// The starts, and steps of a long Update, of a Write behind it and of a Read.
+/// The starts, and steps of a long Update, of a Write behind it, of a Read and of a give-up that tells all servers.
 fn calls<'a>(keys: &'a [Key], table: &'a Table) -> Vec<(&'static str, Case<'a>)> {
     let [short, long] = [1, LAST].map(|version| user(keys, table, version));
     let entry = [&[1][..], &[7; 1023]].concat();
     let mut open = long.clone();
-    open.memory.kept[40] = 1;
+    open.memory.set_write([1, 0, 21, 0, 0, 0]);
     open.memory.path[..32].copy_from_slice(&leaf(1, &entry));
     let writing = Step::Write { entry, randomizer: [5; 32] };
     let reading = Step::Read { position: 333_333 };
     let (update, write) = (answers(&short, Step::Update, keys, table), answers(&short, writing.clone(), keys, table));
     let read = answers(&long, reading.clone(), keys, table);
+    let given_up = answers(&open, Step::GiveUp, keys, table);
+    assert_eq!(given_up.len(), SERVERS as usize, "21 levels have an owner in each server");
     let record = SERVERS as usize;
     let (updated, written, done) = (update.len() - 1, write.len() - 1, read.len() - 1);
     vec![
@@ -74,6 +77,9 @@ fn calls<'a>(keys: &'a [Key], table: &'a Table) -> Vec<(&'static str, Case<'a>)>
         ("Read, the Operation", read[0].clone()),
         ("Read, a Node", read[1].clone()),
         ("Read, the last Node", read[done].clone()),
+        ("give-up, start", open.with(Step::GiveUp)),
+        ("give-up, an answer", given_up[0].clone()),
+        ("give-up, the last answer", given_up[given_up.len() - 1].clone()),
     ]
 }
 
@@ -125,7 +131,7 @@ fn stack_of(case: &Case) -> usize {
 }
 
 fn stack_of_settled(case: &Case) -> usize {
-    let kept = case.memory.kept[..].try_into().expect("42 bytes");
+    let kept = case.memory.kept[..].try_into().expect("46 bytes");
     stack::of_call(LIBRARY, NOTHING, |side| {
         black_box((side.settled)(black_box(&case.shared.settings(case.own)), kept, 1));
     })

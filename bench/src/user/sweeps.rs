@@ -1,4 +1,4 @@
-//! Steps that take one thing through all its values or lengths while the rest stays valid.
+//! Steps that take one thing through all its values or lengths while the rest stays valid; give_ups.rs has more of them.
 use super::case::{Case, Shared, Step, Tally};
 use super::honest::steps;
 use super::plain_tree::leaf;
@@ -13,10 +13,10 @@ use crate::schedule::sweeps::valid_entry;
 use crate::server::sweeps::positions;
 use kozbrax::{CALL, KEPT};
 
-const SERVERS: u32 = 4;
+pub const SERVERS: u32 = 4;
 
 /// The version that is kept and the log's last position, where nothing else is said.
-const VERSION: u32 = 5;
+pub const VERSION: u32 = 5;
 const LAST: u32 = 11;
 
 pub struct Sweeps<'a> {
@@ -42,6 +42,8 @@ impl<'a> Sweeps<'a> {
             ("every length of the user list to 66 users", Self::user_lengths),
             ("entries of every length and first byte, and strikes", Self::entries),
             ("calls of no kind", Self::call_kinds),
+            ("what is kept of an open write, all combinations of some values", Self::kept_of_writes),
+            ("give-ups at each position, level and server that is done, and their answers", Self::give_ups),
             ("settled at positions about the ends", Self::settled),
         ] {
             let before = self.tally.total();
@@ -54,13 +56,13 @@ impl<'a> Sweeps<'a> {
         );
     }
 
-    fn shared(&mut self, servers: u32) -> Shared {
+    pub fn shared(&mut self, servers: u32) -> Shared {
         let users = self.keys.iter().flat_map(|key| key.public.clone()).collect();
         Shared { servers, log: self.random.array(), users }
     }
 
     /// User 1 of a log with a version of the made-up log kept.
-    fn user(&mut self, shared: &Shared, version: u32) -> Case<'a> {
+    pub fn user(&mut self, shared: &Shared, version: u32) -> Case<'a> {
         let mut case = Case::new(shared, 1, &self.keys[0], &mut self.random);
         case.memory.keep(version, self.table);
         case
@@ -82,8 +84,17 @@ impl<'a> Sweeps<'a> {
         [Step::Update, self.write(30), Step::Read { position: VERSION - 1 }]
     }
 
-    /// Each step of an honest Update, Write and Read: what it has before it, and the answer it is to take in.
-    fn moments(&mut self) -> Vec<(Case<'a>, Vec<u8>)> {
+    /// These with a user of the version, and a give-up of an open write of which some Reserves are out.
+    pub fn start_cases(&mut self, shared: &Shared) -> Vec<Case<'a>> {
+        let user = self.user(shared, VERSION);
+        let mut open = user.with(Step::GiveUp);
+        open.memory.set_write([1, 0, 3, 0, 0, 0]);
+        self.starts().into_iter().map(|step| user.with(step)).chain([open]).collect()
+    }
+
+    /// Each step of an honest Update, Write and Read, and of a give-up of the Write at its last Reserve: what it has before it,
+    /// and the answer it is to take in.
+    pub fn moments(&mut self) -> Vec<(Case<'a>, Vec<u8>)> {
         let shared = self.shared(SERVERS);
         let mut servers = self.made_up(&shared, LAST);
         let mut moments = Vec::new();
@@ -91,10 +102,13 @@ impl<'a> Sweeps<'a> {
             let mut case = self.user(&shared, VERSION);
             moments.extend(steps(self.tally, &mut case, step, &mut servers).0);
         }
+        let reserving = |(case, _): &&(Case, Vec<u8>)| case.memory.write()[..4] == [1, 0, 5, 0];
+        let mut case = moments.iter().find(reserving).expect("the last of five Reserves").0.clone();
+        moments.extend(steps(self.tally, &mut case, Step::GiveUp, &mut servers).0);
         moments
     }
 
-    fn take(&mut self, case: &Case, answer: Vec<u8>) {
+    pub fn take(&mut self, case: &Case, answer: Vec<u8>) {
         self.tally.compare(&case.with(Step::Take { answer }));
     }
 
@@ -215,10 +229,7 @@ impl<'a> Sweeps<'a> {
 
     fn buffer_lengths(&mut self) {
         let shared = self.shared(SERVERS);
-        let mut cases: Vec<Case> = Vec::new();
-        for step in self.starts() {
-            cases.push(self.user(&shared, VERSION).with(step));
-        }
+        let mut cases = self.start_cases(&shared);
         cases.extend(self.moments().into_iter().map(|(case, answer)| case.with(Step::Take { answer })));
         for case in cases {
             for length in (0..=64).chain(LEAST_REQUEST - 64..=LEAST_REQUEST + 10) {
@@ -237,13 +248,15 @@ impl<'a> Sweeps<'a> {
         }
     }
 
-    /// With nothing open, with an open write, and with one that is signed.
+    /// With nothing open, with an open write at its Reserves or puts, with one that is signed, and with one whose give-up has
+    /// begun.
     fn kept_at_starts(&mut self) {
         let shared = self.shared(SERVERS);
-        for (opened, signed) in [(0, 0), (1, 0), (1, 1), (0, 1)] {
-            for step in self.starts() {
-                let mut valid = self.user(&shared, VERSION).with(step);
-                valid.memory.kept[40..].copy_from_slice(&[opened, signed]);
+        let open = [[1, 0, 1, 0, 0, 0], [1, 0, 4, 1, 0, 0], [1, 1, 4, 1, 0, 0], [1, 0, 3, 0, 1, 0], [1, 0, 4, 0, 1, 2]];
+        let closed = [[0; 6], [0, 1, 0, 0, 0, 0], [0, 1, 200, 1, 1, 200]];
+        for of_write in open.into_iter().chain(closed) {
+            for mut valid in self.start_cases(&shared) {
+                valid.memory.set_write(of_write);
                 if let Step::Write { entry, .. } = &valid.step {
                     valid.memory.path[..32].copy_from_slice(&leaf(1, entry));
                 }
@@ -271,6 +284,10 @@ impl<'a> Sweeps<'a> {
     fn kept_at_steps(&mut self) {
         for (case, answer) in self.moments() {
             let mut valid = case.with(Step::Take { answer });
+            if valid.memory.write() == [0; 6] {
+                // Not looked at while nothing is open; with the mark of an open write it is one in range.
+                valid.memory.kept[42] = 1;
+            }
             self.kept_values(&valid, 0..1);
             self.kept_values(&valid, 4..KEPT);
             for number in [1022u32, 1023, 1024, 1025] {
@@ -285,8 +302,7 @@ impl<'a> Sweeps<'a> {
         let far = [1 << 8, 1 << 16, 1 << 24, 1 << 31];
         let near_and_far: Vec<u32> = (0..=20).chain(far.iter().flat_map(|far| far - 1..far + 5)).collect();
         let shared = self.shared(SERVERS);
-        for step in self.starts() {
-            let mut case = self.user(&shared, VERSION).with(step);
+        for mut case in self.start_cases(&shared) {
             for &servers in &near_and_far {
                 for &own in &near_and_far {
                     (case.shared.servers, case.own) = (servers, own);
@@ -309,8 +325,7 @@ impl<'a> Sweeps<'a> {
     fn user_lengths(&mut self) {
         let shared = self.shared(SERVERS);
         let long = self.random.bytes(66 * KEY);
-        for step in self.starts() {
-            let mut case = self.user(&shared, VERSION).with(step);
+        for mut case in self.start_cases(&shared) {
             for length in 0..=long.len() {
                 case.shared.users = long[..length].to_vec();
                 case.own = 1 + self.random.below(1 + length / KEY) as u32;
@@ -350,8 +365,8 @@ impl<'a> Sweeps<'a> {
         self.schedules(&user);
     }
 
-    /// Schedules of each count of segments: whole Writes, and starts with each byte of them changed, with nothing open and with an
-    /// open write of that entry, with a number left and with none.
+    /// Schedules of each count of segments: whole Writes, and starts with each byte of them changed, with nothing open and with
+    /// an open write of that entry, with a number left and with none.
     fn schedules(&mut self, user: &Case<'a>) {
         for count in 1..=16 {
             let entry = valid_entry(&mut self.random, count);
@@ -369,7 +384,8 @@ impl<'a> Sweeps<'a> {
     /// A start of a Write of an entry with nothing open, or with an open write of it, and this many numbers used.
     fn start_in(&mut self, user: &Case, entry: &[u8], opened: u8, number: u32) {
         let mut case = user.with(Step::Write { entry: entry.to_vec(), randomizer: self.random.array() });
-        case.memory.kept[36..41].copy_from_slice(&[&number.to_be_bytes()[..], &[opened]].concat());
+        case.memory.kept[36..40].copy_from_slice(&number.to_be_bytes());
+        case.memory.set_write([opened, 0, opened, 0, 0, 0]);
         case.memory.path[..32].copy_from_slice(&leaf(1, entry));
         self.tally.compare(&case);
     }
@@ -392,15 +408,18 @@ impl<'a> Sweeps<'a> {
         }
     }
 
-    /// Kinds that are none, and for a Write marks of being open above 1.
+    /// Kinds that are none, and for a Write and a give-up marks above 1.
     fn call_kinds(&mut self) {
         for (case, answer) in self.moments() {
             let valid = case.with(Step::Take { answer });
-            for kind in (0..=255).filter(|kind| !(1..=3).contains(kind)) {
+            for kind in (0..=255).filter(|kind| !(1..=4).contains(kind)) {
                 self.no_call(&valid, 0, kind);
             }
             for opened in (2..=255).filter(|_| valid.memory.call[0] == 2) {
                 self.no_call(&valid, 46, opened);
+            }
+            for waits in (2..=255).filter(|_| valid.memory.call[0] == 4) {
+                self.no_call(&valid, 1, waits);
             }
         }
     }

@@ -3,7 +3,7 @@ use super::case::Shared;
 use super::plain_tree::{digest, leaf, pair, peaks, Hash, Node};
 use crate::lms::Key;
 use crate::plain_server::{lg, owner, ANSWER_MARK, HEAD, LAST_POSITION, LONGEST_ANSWER, LONGEST_ENTRY};
-use crate::plain_server::{NODE, OPERATION, RECORD, SIGNED_MARK, STATUS};
+use crate::plain_server::{NODE, OPERATION, PLACE, RECORD, SIGNED_MARK, STATUS};
 use crate::sample::Random;
 
 pub trait Servers {
@@ -30,6 +30,11 @@ impl Group {
         Group { shared: shared.clone(), servers: (0..shared.servers).map(server).collect() }
     }
 
+    /// Position, level, author and digest of each head.
+    pub fn heads(&self) -> Vec<[u8; PLACE]> {
+        self.servers.iter().map(|server| server.head[..PLACE].try_into().expect("39 bytes")).collect()
+    }
+
     /// The used part of each store.
     pub fn stores(&self) -> Vec<Vec<u8>> {
         self.servers.iter().map(|server| server.store[..server.used as usize].to_vec()).collect()
@@ -42,7 +47,7 @@ impl Servers for Group {
         let mut answer = vec![0; LONGEST_ANSWER];
         let Server { head, store, used } = &mut self.servers[server as usize - 1];
         let served = kozbrax::server(&settings, head, store, *used, request, &mut answer);
-        assert!(served.code <= 9, "a server in order answers");
+        assert!(served.code <= 9 || served.code == 27, "a server in order answers");
         *used = served.used;
         answer.truncate(served.answer as usize);
         answer
@@ -90,8 +95,8 @@ impl Table {
     }
 }
 
-/// Servers that answer from the table as if its first `last` entries were the log. Every put and Commit is accepted, and kept
-/// nowhere.
+/// Servers that answer from the table as if its first `last` entries were the log. Every Reserve, put, Commit and give-up is accepted, and
+/// kept nowhere.
 pub struct MadeUp<'a> {
     pub table: &'a Table,
     pub shared: Shared,

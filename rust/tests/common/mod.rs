@@ -53,9 +53,14 @@ impl Server {
 
     /// The answer to a request that the server accepts.
     pub fn answer(&mut self, users: &[u8], request: &[u8]) -> Vec<u8> {
+        self.answer_with(users, request, 0)
+    }
+
+    /// The answer to a request, which has this code.
+    pub fn answer_with(&mut self, users: &[u8], request: &[u8], code: u32) -> Vec<u8> {
         let mut answer = vec![0; ANSWER];
         let served = self.serve_into(users, request, &mut answer);
-        assert_eq!(served.code, 0, "server {} accepts the request", self.own);
+        assert_eq!(served.code, code, "server {}'s code", self.own);
         answer.truncate(served.answer as usize);
         answer
     }
@@ -120,6 +125,10 @@ impl User {
 
     pub fn read_start(&mut self, key: &Key, position: u32) -> Asked {
         kozbrax::read_start(&settings(&key.public), position, &mut self.lent())
+    }
+
+    pub fn give_up_start(&mut self, key: &Key) -> Asked {
+        kozbrax::give_up_start(&settings(&key.public), &mut self.lent())
     }
 
     pub fn take(&mut self, key: &Key, answer: &[u8]) -> Asked {
