@@ -9,7 +9,7 @@ by both users, with its author; a write that was given up is in no view, and bot
 but a give-up goes on; and no signature number is used for two signatures, in any request that left a controller, whether a desk took it in or
 not.
 """
-import os, random, re, shutil, signal, subprocess, sys, tempfile, time
+import hashlib, os, random, re, shutil, signal, subprocess, sys, tempfile, time
 
 ROOT = os.path.dirname(os.path.dirname(os.path.abspath(__file__)))
 DESK, CONTROLLER = (os.path.join(ROOT, "target/bin", name) for name in ("desk", "controller"))
@@ -99,15 +99,18 @@ class Log:
         return out.decode() + "".join(line for line in said.decode().splitlines(True) if "not whole: OPERATING, Files" not in line)
 
     def until_done(self, user, *words, give_up=0.0):
-        """Runs a command again until it is done: code 0, or what a read prints. A write that was cut may be given up: then nothing."""
-        self.unheard = 0
+        """Runs a command again until it is done: code 0, or what a read prints. A write that was cut may be given up: then nothing. One that
+        was killed after its end was saved and before that was printed is done; run again, it would write its entry once more."""
         for _ in range(200):
             said = self.run(user, *words)
             if re.match(r"code 0,|\d+, by user", said):
                 return said
             assert not said or re.match(r"no answer|code 11, the server's [48],|.*OPERATING, Lock", said), (words, said)
+            version, opened = saved(user)
+            if not said and words[0] in ("write", "strike") and not opened and version == len(self.entries) + 1:
+                self.unheard += 1
+                return "code 0, version %d" % version
             self.cut += 1
-            self.unheard += not said
             if random.random() < 0.2:
                 self.look_in(3 - user)
             if random.random() < give_up and self.give_up(user, *words):
@@ -142,18 +145,25 @@ class Log:
             self.note(user, words, said, 1)
 
     def note(self, user, words, said, written):
-        """Notes the entry that a version says to be written. A run that was killed after its end was saved and before that was printed has
-        written it too, and then the run after it has written it again."""
+        """Notes the entry, if one was written: the version says so."""
         version = int(re.match(r"code 0, version (\d+)", said).group(1))
-        more = version - len(self.entries)
-        assert written <= more <= written + self.unheard, (version, len(self.entries), self.unheard, said)
-        self.entries += [(user, words)] * more
+        assert version == len(self.entries) + written, (version, len(self.entries), written, said)
+        self.entries += [(user, words)] * written
 
     def read(self, user, position):
         author, words = self.entries[position - 1]
         contents = words[1] if words[0] == "write" else "strikes " + words[1]
         said = self.until_done(user, "read", str(position))
         assert said == "%d, by user %d: %s\n" % (position, author, contents), (said, words)
+
+
+def saved(user):
+    """Version and mark of an open write in the newest whole slot of a user's state (docs/OPERATING.md, 'Files')."""
+    with open(path("user", user, "state"), "rb") as f:
+        state = f.read()
+    slots = [state[at:at + 4324] for at in (0, 8192)]
+    newest = max(s for s in slots if s[4292:] == hashlib.sha256(s[:4292]).digest())
+    return int.from_bytes(newest[40:44], "big"), newest[80] == 1
 
 
 def frames(number):
@@ -219,8 +229,9 @@ def main():
     finally:
         for server in log.servers:
             server.pipeline.kill()
-    print("%d entries, %d kills, %d commands that had to be run again, %d writes given up, %d signatures with as many numbers; all read back "
-          "by both users" % (len(log.entries), log.killed, log.cut, log.given_up, signatures()))
+    print("%d entries, %d kills, %d commands that had to be run again, %d writes given up, %d done whose end was not printed, %d signatures "
+          "with as many numbers; all read back by both users"
+          % (len(log.entries), log.killed, log.cut, log.given_up, log.unheard, signatures()))
     shutil.rmtree(WORK)
 
 
