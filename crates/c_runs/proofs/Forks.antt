@@ -10,7 +10,7 @@ use Rattle.server.specs.Serve.{served}
 use Rattle.c_layout.specs.Server.{headOf, resultOf, serverAnswered}
 use Rattle.whole_run.specs.World.{Setup, settingsFor, Event, User, userStep, dropped}
 use Rattle.whole_run.specs.Runs.{Server, serverAfter, serverEvents, World, Step, user, drops, server, newServer, NewWorld, newWorld, withUser, withServer, step, run}
-use Rattle.fork_bound.specs.Fair.{FairStep, Fair}
+use Rattle.fork_bound.specs.Fair.{Premises, FairStep, Fair, asMessages}
 use Rattle.fork_bound.specs.Claim.{BoundHolds, ForkBound}
 use Rattle.fork_bound.proofs.Fork.{fork-bound}
 use Rattle.c_runs.specs.Bytes.{UserBytes, userOf, userCalled, callDropped, serverBytesAfter, NewBytes, newServerBytes}
@@ -34,9 +34,9 @@ record Holds (g : Setup) (w : ByteWorld) : Type 0 where
 abbrev beside : ByteWorld → List Event → (ℕ → User) → World
 beside w log us = record { users = us; servers = λ s. serverOf (w .servers s); log = log }
 
-module _ (g : Setup) (w : ByteWorld) (h : Holds g w) where
+module _ (g : Setup) (H : ℕ) (p : Premises) (w : ByteWorld) (h : Holds g w) where
   -- The world that the bytes stand for after a call is the world after the step.
-  step-same : (x : Step) → FairStep g (worldOf w) x → worldOf (callStep g w x) ≡ step g (worldOf w) x
+  step-same : (x : Step) → FairStep g H p (worldOf w) x → worldOf (callStep g w x) ≡ step g (worldOf w) x
   unfolding worldOf callStep step withUser withServer serverAfter userStep FairStep serverOf serverBytesAfter serverAnswered resultOf
   step-same (user a i) f =
       let s = settingsFor g a in
@@ -60,7 +60,7 @@ module _ (g : Setup) (w : ByteWorld) (h : Holds g w) where
   users-on : (a : ℕ) (u : UserBytes) → Laid (settingsFor g a) u → (b : ℕ) → Laid (settingsFor g b) (cond (eqb b a) u (w .users b))
   users-on a u l b = by-eqb (λ t. Laid (settingsFor g b) (cond t u (w .users b))) b a (λ e. rw e l) (λ _. h .users b)
 
-  step-holds : (x : Step) → FairStep g (worldOf w) x → Holds g (callStep g w x)
+  step-holds : (x : Step) → FairStep g H p (worldOf w) x → Holds g (callStep g w x)
   unfolding worldOf callStep FairStep serverBytesAfter
   step-holds (user a i) f =
       let u = w .users a in
@@ -83,7 +83,7 @@ module _ (g : Setup) (w : ByteWorld) (h : Holds g w) where
 abbrev pub zeroWorld : NewBytes → NewWorld
 zeroWorld b = record { users = zeroUser b; servers = zeroServer b }
 
-module _ (g : Setup) (b : NewBytes) where
+module _ (g : Setup) (H : ℕ) (p : Premises) (b : NewBytes) where
   abbrev stood : List Step → World
   stood xs = worldOf (byteRun g b xs)
 
@@ -93,25 +93,26 @@ module _ (g : Setup) (b : NewBytes) where
       ap₂ (λ (us : ℕ → User) (ks : ℕ → Head). record { users = us; servers = λ s. record { head = ks s; store = b .store s; used = 0 }; log = [] })
       (fun-ext (λ a. user-zero b a)) (fun-ext (λ s. head-zero b s))
 
-  all-hold : (xs : List Step) → Fair g stood xs → Holds g (byteRun g b xs)
+  all-hold : (xs : List Step) → Fair g H p stood xs → Holds g (byteRun g b xs)
   unfolding byteRun Fair
   all-hold [] f = record { users = λ a. laid-zero (settingsFor g a) b a; heads = head-zero-small b }
-  all-hold (x ∷ xs) f = step-holds g (byteRun g b xs) (all-hold xs (f .1)) x (f .0)
+  all-hold (x ∷ xs) f = step-holds g H p (byteRun g b xs) (all-hold xs (f .1)) x (f .0)
 
   -- A list of calls of the exported functions is a run.
-  pub run-same : (xs : List Step) → Fair g stood xs → stood xs ≡ run g (zeroWorld b) xs
+  pub run-same : (xs : List Step) → Fair g H p stood xs → stood xs ≡ run g (zeroWorld b) xs
   unfolding byteRun run Fair
   run-same [] f = zero-same
   run-same (x ∷ xs) f =
-      step-same g (byteRun g b xs) (all-hold xs (f .1)) x (f .0) ∙ ap (λ (w : World). step g w x) (run-same xs (f .1))
+      step-same g H p (byteRun g b xs) (all-hold xs (f .1)) x (f .0) ∙ ap (λ (w : World). step g w x) (run-same xs (f .1))
 
-  fair-same : (xs : List Step) → Fair g stood xs → Fair g (run g (zeroWorld b)) xs
+  fair-same : (xs : List Step) → Fair g H p stood xs → Fair g H p (run g (zeroWorld b)) xs
   unfolding Fair
   fair-same [] f = tt
-  fair-same (x ∷ xs) f = (subst (λ (w : World). FairStep g w x) (run-same xs (f .1)) (f .0), fair-same xs (f .1))
+  fair-same (x ∷ xs) f = (subst (λ (w : World). FairStep g H p w x) (run-same xs (f .1)) (f .0), fair-same xs (f .1))
 
 -- So the fork bound holds of it.
 pub byte-fork-bound : ByteForkBound
 unfolding ByteForkBound ForkBound
-byte-fork-bound g named one within b xs fair =
-    subst (BoundHolds g) (sym (run-same g b xs fair)) (fork-bound g named one within (zeroWorld b) xs (fair-same g b xs fair))
+byte-fork-bound g named H one within account b xs fair =
+    let p = asMessages H account in
+    subst (BoundHolds g) (sym (run-same g H p b xs fair)) (fork-bound g named H one within account (zeroWorld b) xs (fair-same g H p b xs fair))

@@ -1,11 +1,11 @@
 -- Both claims, of lists of calls of the exported functions: a list of such calls is a run.
 use mathlib.Core.Path.{_≡_}
 use mathlib.Core.List.{List, [], _∷_}
-use Prim.Native.Nat.{_≤_}
+use Prim.Native.Nat.{ℕ, _≤_}
 use lib.ListN.{length}
 use Rattle.whole_run.specs.World.{Setup}
 use Rattle.whole_run.specs.Runs.{Step, Sized}
-use Rattle.fork_bound.specs.Fair.{Fair}
+use Rattle.fork_bound.specs.Fair.{Fair, Account, asMessages}
 use Rattle.fork_bound.specs.Claim.{BoundHolds}
 use Rattle.honest_run.specs.Network.{HonestSetup, InRange, Act, calls}
 use Rattle.honest_run.specs.Claim.{CallsServe}
@@ -14,9 +14,8 @@ use Rattle.c_runs.specs.Runs.{worldOf, byteRun, inBytes, zeroNetwork}
 
 -- The fork bound, of the world that the bytes stand for after every list of fair calls.
 unfoldable pub ByteForkBound : Type 0
-ByteForkBound =
-    (g : Setup) → length (g .log) ≡ 16 → 1 ≤ g .follows → g .follows ≤ g .servers
-    → (b : NewBytes) (xs : List Step) → Fair g (λ ys. worldOf (byteRun g b ys)) xs → BoundHolds g (worldOf (byteRun g b xs))
+ByteForkBound = (g : Setup) → length (g .log) ≡ 16 → (H : ℕ) → 1 ≤ H → H ≤ g .servers → (account : Account) (b : NewBytes) (xs : List Step)
+    → Fair g H (asMessages H account) (λ ys. worldOf (byteRun g b ys)) xs → BoundHolds g (worldOf (byteRun g b xs))
 
 -- "randomizer has 32 bytes" (include/kozbrax.h), in each call of the list.
 unfoldable pub AllSized : List Act → Type 0

@@ -14,7 +14,7 @@ use Rattle.tree.proofs.Labels.{every-server-owns-a-node}
 use Rattle.user_read.specs.Read.{textAuthor, textEntry}
 use Rattle.whole_run.specs.World.{Setup}
 use Rattle.whole_run.specs.Runs.{NewWorld, World, Step, run}
-use Rattle.fork_bound.specs.Fair.{Fair}
+use Rattle.fork_bound.specs.Fair.{Fair, Account, asMessages}
 use Rattle.fork_bound.specs.Claim.{NoneCollide, NoneForged, HasRead, Differ, Bounded, BoundHolds, ForkBound, ViewIsVersion}
 use Rattle.fork_bound.proofs.Noted.{Whole, Hashed}
 use Rattle.fork_bound.proofs.Histories.{SignedBy, Knows, Known, established-agree, all-known}
@@ -23,12 +23,13 @@ use Rattle.fork_bound.proofs.Taken.{Took, TookBelow}
 use Rattle.fork_bound.proofs.Steps.{Holds, all-hold}
 use Rattle.fork_bound.proofs.Heads.{one-digest-at-H}
 
-module _ (g : Setup) (named : length (g .log) ≡ 16) (start : NewWorld) (xs : List Step) (fair : Fair g (run g start) xs) where
+module _ (g : Setup) (named : length (g .log) ≡ 16) (H : ℕ) (account : Account) (start : NewWorld) (xs : List Step)
+    (fair : Fair g H (asMessages H account) (run g start) xs) where
   abbrev w : World
   w = run g start xs
 
   abbrev whole : Whole
-  whole = record { group = g; named = named; world = run g start xs }
+  whole = record { group = g; named = named; follows = H; account = account; world = run g start xs }
 
   holds : Holds whole (run g start xs)
   holds = all-hold whole start xs fair (λ e m. m)
@@ -45,7 +46,7 @@ module _ (g : Setup) (named : length (g .log) ≡ 16) (start : NewWorld) (xs : L
     history a z = let s = holds .users a .state in known .history _ _ z (s .small) (s .kept z)
 
     -- what was signed was reserved at H, and nobody gave it up
-    reserved-at-H : (a k : ℕ) (δ : List ℕ) → SignedBy whole a k δ → (l : ℕ) → l ≤ lg k → owner (g .servers) k l ≡ g .follows → Took g (w .log) a k l δ
+    reserved-at-H : (a k : ℕ) (δ : List ℕ) → SignedBy whole a k δ → (l : ℕ) → l ≤ lg k → owner (g .servers) k l ≡ H → Took whole (w .log) a k l δ
     reserved-at-H a k δ x l within o =
         let f = holds .guards a .signs (signedText (g .log) k δ) (x .signs) in
         let small = x .within in
@@ -54,22 +55,22 @@ module _ (g : Setup) (named : length (g .log) ≡ 16) (start : NewWorld) (xs : L
         let d = text-digest (g .log) (g .log) k (f .p) δ (f .δ) named named (omega arith) (omega arith) (f .is) in
         same-text (f .p) (f .δ) p d (f .took) l (omega arith) within o
       where
-        same-text : (p : ℕ) (ε : List ℕ) → k ≡ p → δ ≡ ε → TookBelow g (w .log) a p ε (suc (lg p)) → TookBelow g (w .log) a k δ (suc (lg k))
+        same-text : (p : ℕ) (ε : List ℕ) → k ≡ p → δ ≡ ε → TookBelow whole (w .log) a p ε (suc (lg p)) → TookBelow whole (w .log) a k δ (suc (lg k))
         same-text p ε e d t = rw (e, d) t
 
     -- Where two views reach a position of whose path H owns a node, they agree up to it.
     pub views-agree : (a b k l : ℕ) → 0 < k → k ≤ w .users a .state .kept .version → k ≤ w .users b .state .kept .version → l ≤ lg k
-        → owner (g .servers) k l ≡ g .follows → (f : History a) (h : History b) (i : ℕ) → i < k → f .0 i ≡ h .0 i
+        → owner (g .servers) k l ≡ H → (f : History a) (h : History b) (i : ℕ) → i < k → f .0 i ≡ h .0 i
     views-agree a b k l z ka kb lk o f h =
         let p = f .1 .signers k z ka in
         let q = h .1 .signers k z kb in
         let x = reserved-at-H (p .0) k _ (p .1) l lk o in
         let y = reserved-at-H (q .0) k _ (q .1) l lk o in
-        let e = one-digest-at-H g named _ (w .log) (holds .head) (p .0) (q .0) k l l _ _ (p .1 .listed) (q .1 .listed) (p .1 .within) x y in
+        let e = one-digest-at-H whole _ (w .log) (holds .head) (p .0) (q .0) k l l _ _ (p .1 .listed) (q .1 .listed) (p .1 .within) x y in
         established-agree whole free (f .0) (h .0) _ _ (f .1) (h .1) k z ka kb e
 
     -- both have read d
-    module _ (H-some : 1 ≤ g .follows) (H-one : g .follows ≤ g .servers) (a b d x y : ℕ) (e f : List ℕ)
+    module _ (H-some : 1 ≤ H) (H-one : H ≤ g .servers) (a b d x y : ℕ) (e f : List ℕ)
         (ra : HasRead (run g start xs) a d x e) (rb : HasRead (run g start xs) b d y f) (differ : Differ x e y f) where
       abbrev va : ℕ
       va = w .users a .state .kept .version
@@ -91,7 +92,7 @@ module _ (g : Setup) (named : length (g .log) ≡ 16) (start : NewWorld) (xs : L
           let s = read-a .some in
           let ia = read-a .within in
           let ib = read-b .within in
-          let o = every-server-owns-a-node (g .servers) d (g .follows) s H-some H-one in
+          let o = every-server-owns-a-node (g .servers) d H s H-some H-one in
           let lo = o .low in
           let hi = o .high in
           let p = history a (omega arith) in
@@ -111,8 +112,8 @@ module _ (g : Setup) (named : length (g .log) ≡ 16) (start : NewWorld) (xs : L
 
 pub view-is-version : ViewIsVersion
 unfolding ViewIsVersion
-view-is-version g named start xs fair a = holds g named start xs fair .users a .seen
+view-is-version g named H account start xs fair a = holds g named H account start xs fair .users a .seen
 
 pub fork-bound : ForkBound
 unfolding ForkBound BoundHolds NoneCollide
-fork-bound g named H-some H-one start xs fair free owned = bounded g named start xs fair free owned H-some H-one
+fork-bound g named H H-some H-one account start xs fair free owned = bounded g named H account start xs fair free owned H-some H-one

@@ -32,7 +32,7 @@ use Rattle.user_give_up.specs.GiveUp.{beginning, told, closed, giveUpGoes, give
 use Rattle.user_give_up.proofs.GiveUpRules as Give
 use Rattle.user_calls.specs.Calls.{Call, idle, updating, writing, reading, givingUp, Input, startUpdate, startWrite, startRead, startGiveUp, answer, asCall, taken, stepped}
 use Rattle.whole_run.specs.World.{settingsFor, Event, hashed, signed, accepted, handedOut, answered, Sent, User, returned, after, eventsOf, userStep}
-use Rattle.fork_bound.specs.Fair.{SinceGiveUps, Gave, FairInput}
+use Rattle.fork_bound.specs.Fair.{FairInput, SinceGiveUps, Gave, asMessages}
 use Rattle.whole_run.proofs.Refusals.{accepted-step}
 use Rattle.fork_bound.proofs.Noted.{Whole}
 use Rattle.fork_bound.proofs.States.{openPosition, openDigest, UpdateOk, WriteOk, CallOk, GivingUp, UserOk}
@@ -81,9 +81,16 @@ module _ (W : Whole) (own : ℕ) (u : User) (ok : UserOk W own u) (log : List Ev
   abbrev n : ℕ
   n = W .group .servers
 
+  -- what is asked of an input that is taken, and of an answer
+  abbrev FairIn : Input → Type 0
+  FairIn = FairInput (W .follows) (asMessages (W .follows) (W .account)) own log u
+
+  abbrev FairAnswer : List ℕ → Type 0
+  FairAnswer a = u .sent .server ≡ W .follows → Gave (W .follows) (W .account) own log (u .sent .bytes) a
+
   -- what a step with code 0 keeps, by what was noted before it
   abbrev Keeps : {C : Type 0} → (C → Call) → Outcome C → Type 0
-  Keeps kind o = o .step .code ≡ 0 → Forward σ (o .state) × CallTook (W .group) log own (o .state) (after u (asCall kind o) .call)
+  Keeps kind o = o .step .code ≡ 0 → Forward σ (o .state) × CallTook W log own (o .state) (after u (asCall kind o) .call)
 
   -- an Update that has ended: p* is not below the version
   arrived-up : (c : Update) (a : List ℕ) → UpdateOk W (σ .kept .version) c → Taken s σ (u .lent) c a
@@ -116,7 +123,7 @@ module _ (W : Whole) (own : ℕ) (u : User) (ok : UserOk W own u) (log : List Ev
   read-keeps r a z =
       let o = readTaken s σ (u .lent) r a in (
         subst (Forward σ) (sym (read-state s σ (u .lent) r a)) (forward-same σ),
-        by-cond (CallTook (W .group) log own (o .state)) (returned (o .step)) idle (reading (o .call)) (λ _. tt) (λ _. tt),
+        by-cond (CallTook W log own (o .state)) (returned (o .step)) idle (reading (o .call)) (λ _. tt) (λ _. tt),
       )
 
   read-start-keeps : (m : Lent) (i : ℕ) → Keeps reading (readStarted s σ m i)
@@ -124,7 +131,7 @@ module _ (W : Whole) (own : ℕ) (u : User) (ok : UserOk W own u) (log : List Ev
   read-start-keeps m i z =
       let o = readStarted s σ m i in (
         subst (Forward σ) (sym (read-start-state s σ m i)) (forward-same σ),
-        by-cond (CallTook (W .group) log own (o .state)) (returned (o .step)) idle (reading (o .call)) (λ _. tt) (λ _. tt),
+        by-cond (CallTook W log own (o .state)) (returned (o .step)) idle (reading (o .call)) (λ _. tt) (λ _. tt),
       )
 
   -- a give-up leaves the version, and closes no write that is signed
@@ -171,18 +178,18 @@ module _ (W : Whole) (own : ℕ) (u : User) (ok : UserOk W own u) (log : List Ev
 
   -- an answer that an open write takes in
   module _ (w : Write) (a : List ℕ) (i : WriteOk W own (u .state) (u .sent) w) (isOpen : w .opened ≡ true)
-      (fair : u .sent .server ≡ W .group .follows → Gave own (W .group .follows) log (u .sent .bytes) a)
-      (took : TookBelow (W .group) log own (openPosition (u .state)) (openDigest (u .state)) (w .answers)) where
+      (fair : u .sent .server ≡ W .follows → Gave (W .follows) (W .account) own log (u .sent .bytes) a)
+      (took : TookBelow W log own (openPosition (u .state)) (openDigest (u .state)) (w .answers)) where
     -- the Reserve that was answered now is taken too
-    took-now : Going s σ (u .lent) w a → TookBelow (W .group) log own p δ (suc (w .answers))
+    took-now : Going s σ (u .lent) w a → TookBelow W log own p δ (suc (w .answers))
     unfolding Gave SinceGiveUps
     took-now g l h within o =
         cases-eq l (w .answers)
         (λ e.
         let x = i .goes isOpen .asks (omega arith) in
-        let server : u .sent .server ≡ W .group .follows = x .0 ∙ rw e at o in
+        let server : u .sent .server ≡ W .follows = x .0 ∙ rw e at o in
         let bytes : u .sent .bytes ≡ request 5 (s .log) own p l δ = x .1 ∙ rw e in
-        let f = subst (λ q. Gave own (W .group .follows) log q a) bytes (fair server) in
+        let f = subst (λ q. Gave (W .follows) (W .account) own log q a) bytes (fair server) in
         record {
           answer = a;
           number = f .0;
@@ -194,7 +201,7 @@ module _ (W : Whole) (own : ℕ) (u : User) (ok : UserOk W own u) (log : List Ev
 
     -- what is signed now has all of them behind it
     firm-now : Going s σ (u .lent) w a → (σ′ : State) → σ′ .kept .version ≡ σ .kept .version → σ′ .kept .opened ≡ true → σ′ .kept .signed ≡ true
-        → signsNext (σ .kept) w ≡ true → Firm (W .group) log own σ′ (signedText (s .log) p δ)
+        → signsNext (σ .kept) w ≡ true → Firm W log own σ′ (signedText (s .log) p δ)
     firm-now g σ′ version opened is-signed e =
         let last = signs-last (σ .kept) w e in
         record {
@@ -217,11 +224,11 @@ module _ (W : Whole) (own : ℕ) (u : User) (ok : UserOk W own u) (log : List Ev
         ))
 
     signs-firmly : writeGoes s σ (u .lent) w a .step .code ≡ 0 → signsNext (σ .kept) w ≡ true
-        → let o = writeGoes s σ (u .lent) w a in Firm (W .group) log own (o .state) (signedText (s .log) p (pathDigest p (o .state .path)))
+        → let o = writeGoes s σ (u .lent) w a in Firm W log own (o .state) (signedText (s .log) p (pathDigest p (o .state .path)))
     unfolding writeAsks goesOn signing refused
     signs-firmly =
         by-going s σ (u .lent) w a (λ (o : Outcome Write). o .step .code ≡ 0 → signsNext (σ .kept) w ≡ true
-        → Firm (W .group) log own (o .state) (signedText (s .log) p (pathDigest p (o .state .path))))
+        → Firm W log own (o .state) (signedText (s .log) p (pathDigest p (o .state .path))))
         (λ n z. absurd (n z)) (λ g e _ n. let x = signs-last (σ .kept) w n in absurd (omega arith))
         (λ g e _ n. firm-now g _ refl refl (rw n (or-true (σ .kept .signed))) n)
 
@@ -229,10 +236,10 @@ module _ (W : Whole) (own : ℕ) (u : User) (ok : UserOk W own u) (log : List Ev
   abbrev left : Input → Outcome Call
   left i = stepped s σ (u .lent) (u .call) i
 
-  answer-keeps : (a : List ℕ) (c : Call) → CallOk W own σ (u .sent) c → CallTook (W .group) log own σ c
-      → (u .sent .server ≡ W .group .follows → Gave own (W .group .follows) log (u .sent .bytes) a)
+  answer-keeps : (a : List ℕ) (c : Call) → CallOk W own σ (u .sent) c → CallTook W log own σ c
+      → FairAnswer a
       → let o = taken s σ (u .lent) c a in
-      o .step .code ≡ 0 → Forward σ (o .state) × CallTook (W .group) log own (o .state) (after u o .call)
+      o .step .code ≡ 0 → Forward σ (o .state) × CallTook W log own (o .state) (after u o .call)
   unfolding taken writeTaken refused
   answer-keeps a idle i t fair = λ z. absurd (stray s σ (u .lent) z)
   answer-keeps a (updating c) i t fair = update-keeps c a i
@@ -241,9 +248,9 @@ module _ (W : Whole) (own : ℕ) (u : User) (ok : UserOk W own u) (log : List Ev
   answer-keeps a (reading r) i t fair = read-keeps r a
   answer-keeps a (givingUp c) i t fair = give-up-keeps c a
 
-  accepted-keeps : (i : Input) → FairInput (W .group) own log u i → CallTook (W .group) log own σ (u .call) → left i .step .code ≡ 0
-      → Forward σ (left i .state) × CallTook (W .group) log own (left i .state) (after u (left i) .call)
-  unfolding stepped FairInput
+  accepted-keeps : (i : Input) → FairIn i → CallTook W log own σ (u .call) → left i .step .code ≡ 0
+      → Forward σ (left i .state) × CallTook W log own (left i .state) (after u (left i) .call)
+  unfolding stepped FairInput asMessages
   accepted-keeps (startUpdate m) fair t = update-start-keeps m
   accepted-keeps (startWrite m entry randomizer) fair t = write-start-keeps m entry randomizer
   accepted-keeps (startRead m i) fair t = read-start-keeps m i
@@ -253,27 +260,27 @@ module _ (W : Whole) (own : ℕ) (u : User) (ok : UserOk W own u) (log : List Ev
   -- and what it signs
   abbrev Fresh : State → Event → Type 0
   Fresh σ′ (hashed t) = Unit {0}
-  Fresh σ′ (signed a t) = (a ≡ own) × Firm (W .group) log own σ′ t
+  Fresh σ′ (signed a t) = (a ≡ own) × Firm W log own σ′ t
   Fresh σ′ (accepted a t) = Unit {0}
   Fresh σ′ (handedOut a s q) = Unit {0}
   Fresh σ′ (answered s q x) = Unit {0}
 
-  answer-signs : (a : List ℕ) (c : Call) → CallOk W own σ (u .sent) c → CallTook (W .group) log own σ c
-      → (u .sent .server ≡ W .group .follows → Gave own (W .group .follows) log (u .sent .bytes) a)
+  answer-signs : (a : List ℕ) (c : Call) → CallOk W own σ (u .sent) c → CallTook W log own σ c
+      → FairAnswer a
       → Signing (Fresh (taken s σ (u .lent) c a .state)) (λ _. tt) (λ _ _. tt) s u a c
   unfolding taken writeTaken
   answer-signs a idle i t fair = tt
   answer-signs a (updating c) i t fair = tt
   answer-signs a (writing w) i t fair = λ e z n.
       let text = signedText (s .log) p (pathDigest p (writeGoes s σ (u .lent) w a .state .path)) in
-      let over : Bool → Type 0 = λ b. Firm (W .group) log own (cond b (writeGoes s σ (u .lent) w a) (writeUpdates s σ (u .lent) w a) .state) text in
+      let over : Bool → Type 0 = λ b. Firm W log own (cond b (writeGoes s σ (u .lent) w a) (writeUpdates s σ (u .lent) w a) .state) text in
       (refl, subst over (sym e) (signs-firmly w a i e fair (t e) z n))
   answer-signs a (reading r) i t fair = tt
   answer-signs a (givingUp c) i t fair = tt
 
-  accepted-signs : (i : Input) → FairInput (W .group) own log u i → CallTook (W .group) log own σ (u .call)
+  accepted-signs : (i : Input) → FairIn i → CallTook W log own σ (u .call)
       → SigningIn (Fresh (left i .state)) (λ _. tt) (λ _ _. tt) s u i
-  unfolding stepped FairInput
+  unfolding stepped FairInput asMessages
   accepted-signs (startUpdate m) fair t = tt
   accepted-signs (startWrite m entry randomizer) fair t = tt
   accepted-signs (startRead m i) fair t = tt
@@ -281,7 +288,7 @@ module _ (W : Whole) (own : ℕ) (u : User) (ok : UserOk W own u) (log : List Ev
   accepted-signs (answer a) fair t = answer-signs a (u .call) (ok .call) t fair
 
   -- a position that was passed stays so
-  passed-on : (q : ℕ) (σ′ : State) → Forward σ σ′ → Passed (W .group) q σ → Passed (W .group) q σ′
+  passed-on : (q : ℕ) (σ′ : State) → Forward σ σ′ → Passed W q σ → Passed W q σ′
   passed-on q σ′ f x =
       let up = f .up in
       elim x [
@@ -292,7 +299,7 @@ module _ (W : Whole) (own : ℕ) (u : User) (ok : UserOk W own u) (log : List Ev
         ]
       ]
 
-  module _ (i : Input) (fair : FairInput (W .group) own log u i) (k : Guarded (W .group) log own u)
+  module _ (i : Input) (fair : FairInput (W .follows) (asMessages (W .follows) (W .account)) own log u i) (k : Guarded W log own u)
       (z : stepped (settingsFor (W .group) own) (u .state) (u .lent) (u .call) i .step .code ≡ 0)
       (new : UserOk W own (after u (stepped (settingsFor (W .group) own) (u .state) (u .lent) (u .call) i))) where
     abbrev σ′ : State
@@ -301,35 +308,35 @@ module _ (W : Whole) (own : ℕ) (u : User) (ok : UserOk W own u) (log : List Ev
     abbrev es : List Event
     es = userStep s u i .events
 
-    abbrev kept : Forward σ σ′ × CallTook (W .group) log own σ′ (after u (left i) .call)
+    abbrev kept : Forward σ σ′ × CallTook W log own σ′ (after u (left i) .call)
     kept = accepted-keeps i fair (k .call) z
 
     -- what it hands out gives up nothing, unless its call is a give-up, and then no position that was passed
-    hands-out : (r : List ℕ) → List·Memᴰ (handedOut own (W .group .follows) r) es → r ≡ after u (left i) .sent .bytes
+    hands-out : (r : List ℕ) → List·Memᴰ (handedOut own (W .follows) r) es → r ≡ after u (left i) .sent .bytes
     unfolding after
-    hands-out r m = elim (step-event s u i (handedOut own (W .group .follows) r) m .1) [
+    hands-out r m = elim (step-event s u i (handedOut own (W .follows) r) m .1) [
       | inl e ↦ cc
       | inr y ↦ absurd (step-behind W own u ok i z _ y)
     ]
 
-    unpassed : (c : Call) (x : Sent) (τ : State) → GivingUp W own c → CallOk W own τ x c → (q : ℕ) → requestPosition (x .bytes) ≡ q → Passed (W .group) q τ → ⊥
+    unpassed : (c : Call) (x : Sent) (τ : State) → GivingUp W own c → CallOk W own τ x c → (q : ℕ) → requestPosition (x .bytes) ≡ q → Passed W q τ → ⊥
     unpassed idle x τ g ok q e y = g
     unpassed (updating c) x τ g ok q e y = g
     unpassed (writing w) x τ g ok q e y = g
     unpassed (reading r) x τ g ok q e y = g
     unpassed (givingUp c) x τ g ok q e y = elim y [ inl h ↦ omega (arith, ok .0) | inr z ↦ not-both (τ .kept .signed) (z .2) (ok .1) ]
 
-    none-passed : (q : ℕ) (ε : List ℕ) → Passed (W .group) q σ′ → NoneGivesUp (W .group) es own q ε
+    none-passed : (q : ℕ) (ε : List ℕ) → Passed W q σ′ → NoneGivesUp W es own q ε
     unfolding after
     none-passed q ε x r m e =
         let sent = hands-out r m in
         let v = after u (left i) in
         unpassed (v .call) (v .sent) σ′ (new .out (rw sent at (e .0))) (new .call) q (rw sent at (e .1)) x
 
-    later : (q : ℕ) (ε : List ℕ) (j : ℕ) → NoneGivesUp (W .group) es own q ε → TookBelow (W .group) log own q ε j → TookBelow (W .group) (es ++ log) own q ε j
-    later q ε j none t l h b o = took-later (W .group) es log own q l ε none (t l h b o)
+    later : (q : ℕ) (ε : List ℕ) (j : ℕ) → NoneGivesUp W es own q ε → TookBelow W log own q ε j → TookBelow W (es ++ log) own q ε j
+    later q ε j none t l h b o = took-later W es log own q l ε none (t l h b o)
 
-    firm-later : (t : List ℕ) → Firm (W .group) log own σ′ t → Firm (W .group) (es ++ log) own σ′ t
+    firm-later : (t : List ℕ) → Firm W log own σ′ t → Firm W (es ++ log) own σ′ t
     firm-later t f =
         record {
           p = f .p;
@@ -340,25 +347,25 @@ module _ (W : Whole) (own : ℕ) (u : User) (ok : UserOk W own u) (log : List Ev
           passed = f .passed;
         }
 
-    firm-on : (t : List ℕ) → Firm (W .group) log own σ t → Firm (W .group) log own σ′ t
+    firm-on : (t : List ℕ) → Firm W log own σ t → Firm W log own σ′ t
     firm-on t f =
         record { p = f .p; δ = f .δ; is = f .is; small = f .small; took = f .took; passed = passed-on (f .p) σ′ (kept .0) (f .passed) }
 
-    signed-now : (t : List ℕ) → List·Memᴰ (signed own t) es → Firm (W .group) log own σ′ t
+    signed-now : (t : List ℕ) → List·Memᴰ (signed own t) es → Firm W log own σ′ t
     signed-now t m = elim (step-event s u i (signed own t) m .1) [
       | inl e ↦ absurd (let x : _≡_ {A = ℕ} 0 1 = cc in omega arith)
       | inr y ↦ accepted-events (Fresh σ′) (λ _. tt) (λ _ _. tt) s u i (accepted-signs i fair (k .call)) z (signed own t) y .1
     ]
 
-    call-later : (c : Call) → (requestKind (after u (left i) .sent .bytes) ≡ 9 → GivingUp W own c) → CallTook (W .group) log own σ′ c
-        → CallTook (W .group) (es ++ log) own σ′ c
+    call-later : (c : Call) → (requestKind (after u (left i) .sent .bytes) ≡ 9 → GivingUp W own c) → CallTook W log own σ′ c
+        → CallTook W (es ++ log) own σ′ c
     call-later idle out t = tt
     call-later (updating c) out t = tt
     call-later (writing w) out t = λ e. later _ _ (w .answers) (λ r m x. out (rw (hands-out r m) at (x .0))) (t e)
     call-later (reading r) out t = tt
     call-later (givingUp g) out t = tt
 
-    pub guard-accepted : Guarded (W .group) (es ++ log) own (after u (left i))
+    pub guard-accepted : Guarded W (es ++ log) own (after u (left i))
     unfolding after
     guard-accepted =
         record {
@@ -367,12 +374,12 @@ module _ (W : Whole) (own : ℕ) (u : User) (ok : UserOk W own u) (log : List Ev
         }
 
   -- A step of the user, refused or not.
-  pub guard-step : (i : Input) → FairInput (W .group) own log u i → Guarded (W .group) log own u → UserOk W own (userStep s u i .user)
-      → Guarded (W .group) (userStep s u i .events ++ log) own (userStep s u i .user)
+  pub guard-step : (i : Input) → (userStep s u i .step .code ≡ 0 → FairIn i) → Guarded W log own u → UserOk W own (userStep s u i .user)
+      → Guarded W (userStep s u i .events ++ log) own (userStep s u i .user)
   unfolding userStep eventsOf
   guard-step i fair k new =
       cases-eq (left i .step .code) 0
       (λ z.
-      subst (Guarded (W .group) (userStep s u i .events ++ log) own) (sym (accepted-step s u i z))
-      (guard-accepted i fair k z (subst (UserOk W own) (accepted-step s u i z) new)))
+      subst (Guarded W (userStep s u i .events ++ log) own) (sym (accepted-step s u i z))
+      (guard-accepted i (fair z) k z (subst (UserOk W own) (accepted-step s u i z) new)))
       (λ n. rw (ne-eqb (left i .step .code) 0 n) k)

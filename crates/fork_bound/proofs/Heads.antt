@@ -29,12 +29,13 @@ use Rattle.server.proofs.Served.{rs, code, given, served-passed, served-refused
 use Rattle.server.proofs.Theorems.{Heads, reserved-or-same, refusal-keeps-all, head-changes-only-by-reserve-or-give-up, reserve-passed}
 use Rattle.server.proofs.After.{reserved-higher, reserved-again, accepted-setup, accepted-code, accepted-fits}
 use Rattle.server.proofs.GiveUps.{reserve-is-head, give-up-is-heads, give-up-brings-back}
-use Rattle.whole_run.specs.World.{Setup, Event, handedOut, answered, Noted}
+use Rattle.whole_run.specs.World.{Event, answered, Noted}
 use Rattle.whole_run.specs.Runs.{NewServer, newHead, serverEvents}
-use Rattle.fork_bound.specs.Fair.{InTime}
+use Rattle.fork_bound.specs.Fair.{Account, Belongs, InTime}
 use Rattle.whole_run.proofs.Answers.{all-given}
 use Rattle.fork_bound.proofs.Order.{noted-in, noted-below, noted-later, noted-before}
-use Rattle.fork_bound.proofs.Taken.{Took}
+use Rattle.fork_bound.proofs.Noted.{Whole}
+use Rattle.fork_bound.proofs.Taken.{belongs-later, Took}
 
 -- the tenth byte of an answer is its code, whatever the other fields are
 code-byte : (kind own p l c : ℕ) (body : List ℕ) → c < 256 → answerCode (answerHeader kind own p l c ++ body) ≡ c
@@ -125,42 +126,52 @@ pub record Below (a p : ℕ) (δ : List ℕ) (position author : ℕ) (digest : L
   pub same : p ≡ position → (a ≡ author) × (δ ≡ digest)
 
 -- a give-up that H accepted at number k was in time
-abbrev pub Timely : ℕ → List Event → ℕ → List ℕ → Type 0
-Timely H log k q =
-    (m : ℕ) × Noted log m (handedOut (requestAuthor q) H q) × ((i j : ℕ) (r x : List ℕ) → m < i → i < j → j < k
-    → Noted log i (handedOut (requestAuthor q) H r) → Noted log j (answered H r x) → ⊥)
+abbrev pub Timely : ℕ → Account → List Event → ℕ → List ℕ → Type 0
+Timely H account log k q =
+    (m : ℕ) × Belongs H account (requestAuthor q) log k m q × ((i j : ℕ) (r x : List ℕ) → requestKind r ≡ 5 → j < k
+    → Noted log j (answered H r x) → Belongs H account (requestAuthor q) log j i r → m < i → ⊥)
 
 -- What stands at H is at its head or below; if there is an earlier head, nothing stands between the two; and for one position one digest stands.
-pub record Logged (H : ℕ) (h : Head) (log : List Event) : Type 0 where
+pub record Logged (H : ℕ) (account : Account) (h : Head) (log : List Event) : Type 0 where
   pub whole : length (h .digest) ≡ 32
   pub earlier-whole : h .earlier .known ≡ true → length (h .earlier .digest) ≡ 32
   pub past : (a p : ℕ) (δ : List ℕ) → Stands H log a p δ → Below a p δ (h .position) (h .author) (h .digest)
   pub before : h .earlier .known ≡ true → (a p : ℕ) (δ : List ℕ) → Stands H log a p δ
       → (p ≡ h .position) ⊎ Below a p δ (h .earlier .position) (h .earlier .author) (h .earlier .digest)
   pub same : (a b p : ℕ) (δ ε : List ℕ) → Stands H log a p δ → Stands H log b p ε → δ ≡ ε
-  pub fair : (k : ℕ) (q y : List ℕ) → Noted log k (answered H q y) → requestKind q ≡ 9 → answerCode y ≡ 0 → Timely H log k q
+  pub fair : (k : ℕ) (q y : List ℕ) → Noted log k (answered H q y) → requestKind q ≡ 9 → answerCode y ≡ 0 → Timely H account log k q
 
--- a give-up that was in time stays so
-timely-later : (H : ℕ) (es log : List Event) (k : ℕ) (q y : List ℕ) → Noted log k (answered H q y) → Timely H log k q → Timely H (es ++ log) k q
-timely-later H es log k q y n t =
-    let small = noted-below log k _ n in
-    let old : (i : ℕ) (e : Event) → i < k → Noted (es ++ log) i e → Noted log i e = λ i e l m. elim (noted-before es log i e m) [
-      | inl x ↦ x
-      | inr x ↦ absurd (omega (arith, x .1))
-    ] in
-    (t .0, noted-later es log _ _ (t .1), λ i j r x a b c u v. t .2 i j r x a b c (old i _ (omega arith) u) (old j _ c v))
+-- what is noted under a number of the past was so then
+noted-then : (es log : List Event) (i : ℕ) (e : Event) → i < length log → Noted (es ++ log) i e → Noted log i e
+noted-then es log i e l m = elim (noted-before es log i e m) [ inl x ↦ x | inr x ↦ absurd (omega (arith, x .1)) ]
+
+belongs-then : (H : ℕ) (account : Account) (es log : List Event) (a j i : ℕ) (q : List ℕ) → j < length log → Belongs H account a (es ++ log) j i q
+    → Belongs H account a log j i q
+unfolding Belongs
+belongs-then H account es log a j i q l b = (b .0, b .1, noted-then es log i _ (omega (arith, b .1)) (b .2))
+
+-- a give-up that was in time stays so: what is noted later has higher numbers
+timely-later : (H : ℕ) (account : Account) (es log : List Event) (k : ℕ) (q : List ℕ) → k ≤ length log → Timely H account log k q
+    → Timely H account (es ++ log) k q
+timely-later H account es log k q small t = (
+  t .0,
+  belongs-later H account es log _ _ _ q (t .1),
+  λ i j r x five l n b. t .2 i j r x five l (noted-then es log j _ (omega arith) n) (belongs-then H account es log _ j i r (omega arith) b),
+)
 
 -- steps of users and of other servers: the head stays, and no answer of H's is new
-pub logged-later : (H : ℕ) (h : Head) (es log : List Event) → ((q a : List ℕ) → List·Memᴰ (answered H q a) es → ⊥) → Logged H h log
-    → Logged H h (es ++ log)
-logged-later H h es log none k =
+pub logged-later : (H : ℕ) (account : Account) (h : Head) (es log : List Event) → ((q a : List ℕ) → List·Memᴰ (answered H q a) es → ⊥)
+    → Logged H account h log → Logged H account h (es ++ log)
+logged-later H account h es log none k =
     record {
       whole = k .whole;
       earlier-whole = k .earlier-whole;
       past = λ a p δ x. k .past a p δ (stood a p δ x);
       before = λ e a p δ x. k .before e a p δ (stood a p δ x);
       same = λ a b p δ ε x y. k .same a b p δ ε (stood a p δ x) (stood b p ε y);
-      fair = λ j q y n e z. let m = old j q y n in timely-later H es log j q y m (k .fair j q y m e z);
+      fair = λ j q y n e z.
+          let m = old j q y n in
+          timely-later H account es log j q (omega (arith, noted-below log j _ m)) (k .fair j q y m e z);
     }
   where
     old : (j : ℕ) (q y : List ℕ) → Noted (es ++ log) j (answered H q y) → Noted log j (answered H q y)
@@ -179,8 +190,8 @@ logged-later H h es log none k =
         }
 
 -- a call of H
-module _ (H : ℕ) (h : Head) (log : List Event) (s : Settings) (store : List ℕ) (used : ℕ) (q buffer : List ℕ) (k : Logged H h log)
-    (timely : requestKind q ≡ 9 → served s h store used q buffer .out .code ≡ 0 → InTime H log q) where
+module _ (H : ℕ) (account : Account) (h : Head) (log : List Event) (s : Settings) (store : List ℕ) (used : ℕ) (q buffer : List ℕ)
+    (k : Logged H account h log) (timely : requestKind q ≡ 9 → served s h store used q buffer .out .code ≡ 0 → InTime H account log q) where
   abbrev pub call : ServeOutcome
   call = served s h store used q buffer
 
@@ -213,31 +224,27 @@ module _ (H : ℕ) (h : Head) (log : List Event) (s : Settings) (store : List �
   ]
 
   -- a give-up that is accepted now is in time
-  timely-now : (j : ℕ) → j ≤ length log → InTime H log q → Timely H longer j q
+  timely-now : InTime H account log q → Timely H account longer (length log) q
   unfolding InTime
-  timely-now j last t =
-      let old : (i : ℕ) (e : Event) → i < j → Noted longer i e → Noted log i e = λ i e l m. elim (noted-before es log i e m) [
-        | inl x ↦ x
-        | inr x ↦ absurd (omega (arith, x .1))
-      ] in
-      (t .0, noted-later es log _ _ (t .1), λ i l r x b c d u v. t .2 i l r x b c (old i _ (omega arith) u) (old l _ d v))
+  timely-now t =
+      timely-later H account es log (length log) q (omega arith) (t .0, t .1, λ i j r x five _ n b. t .2 i j r x five n b)
 
   one-event : length es ≤ 1
   unfolding serverEvents
   one-event = by-cond (λ (xs : List Event). length xs ≤ 1) (eqb (call .out .answered) 0) [] _ (λ _. omega arith) (λ _. omega arith)
 
-  fair-now : (j : ℕ) (r y : List ℕ) → Noted longer j (answered H r y) → requestKind r ≡ 9 → answerCode y ≡ 0 → Timely H longer j r
-  unfolding InTime
+  fair-now : (j : ℕ) (r y : List ℕ) → Noted longer j (answered H r y) → requestKind r ≡ 9 → answerCode y ≡ 0 → Timely H account longer j r
   fair-now j r y n e z = elim (noted-before es log j _ n) [
-    | inl x ↦ timely-later H es log j r y x (k .fair j r y x e z)
+    | inl x ↦ timely-later H account es log j r (omega (arith, noted-below log j _ x)) (k .fair j r y x e z)
     | inr x ↦ (let c = noted-code s h store used q buffer H r y (x .0) in
-        subst (λ b. Timely H longer j b) (sym (c .0))
-        (timely-now j (omega (arith, noted-below longer j _ n, length-append es log, one-event)) (timely (rw (c .0) at e) (sym (c .1) ∙ z))))
+        let last : j ≡ length log = omega (arith, noted-below longer j _ n, length-append es log, one-event, x .1) in
+        subst (λ b. Timely H account longer j b) (sym (c .0))
+        (subst (λ i. Timely H account longer i q) (sym last) (timely-now (timely (rw (c .0) at e) (sym (c .1) ∙ z)))))
   ]
 
   -- what holds of the new head, by what it is
   abbrev Goes : Head → Type 0
-  Goes h′ = Logged H h′ longer
+  Goes h′ = Logged H account h′ longer
 
   -- nothing is reserved now, and the head stays
   stays : (call .out .code ≡ 0 → requestKind q ≡ 5 → ⊥) → Goes h
@@ -349,7 +356,7 @@ module _ (H : ℕ) (h : Head) (log : List Event) (s : Settings) (store : List �
         fair = fair-now;
       }
 
-  pub logged-server : Logged H (call .out .head) longer
+  pub logged-server : Logged H account (call .out .head) longer
   logged-server =
       cases-eq (call .out .code) 0
       (λ ok. cases-eq (requestKind q) 5
@@ -360,9 +367,9 @@ module _ (H : ℕ) (h : Head) (log : List Event) (s : Settings) (store : List �
       (λ m. subst Goes (sym (head-changes-only-by-reserve-or-give-up s h store used q buffer (λ _. n) (λ _. m))) (stays (λ _. n)))))
       (λ n. subst Goes (sym (refusal-keeps-all s h store used q buffer n .0)) (stays (λ z _. n z)))
 
-pub logged-first : (H : ℕ) (b : NewServer) → Logged H (newHead b) []
+pub logged-first : (H : ℕ) (account : Account) (b : NewServer) → Logged H account (newHead b) []
 unfolding newHead noneEarlier
-logged-first H b =
+logged-first H account b =
     record {
       whole = b .digest-size;
       earlier-whole = λ m. not-both false m refl;
@@ -393,27 +400,31 @@ module _ (log : List ℕ) (named : length log ≡ 16) (a p l : ℕ) (δ : List �
         request-body 5 log _ _ _ δ (omega arith) named ha hp hl,
       )
 
--- A Reserve that H accepted, of which the user has handed out no give-up since, stands: H took none of it in, by the premises.
-stands : (g : Setup) → length (g .log) ≡ 16 → (h : Head) (log : List Event) → Logged (g .follows) h log → (a p l : ℕ) (δ : List ℕ) → a ≤ 64 → p ≤ 1048576
-    → Took g log a p l δ → Stands (g .follows) log a p δ
-stands g named h log k a p l δ listed small t =
-    let r = reserve-read (g .log) named a p l δ in
-    record {
-      request = request 5 (g .log) a p l δ;
-      answer = t .answer;
-      number = t .number;
-      given = t .given;
-      reserves = (r .0, omega (arith, r .1), omega (arith, r .2), r .3);
-      code = t .code;
-      since = λ j r y late n o z.
-          let f = k .fair j r y n (o .0) z in
-          let i = t .since (f .0) r (subst (λ b. Noted log (f .0) (handedOut b (g .follows) r)) (o .1) (f .1)) (o .0, o .2, o .3) in
-          let q = request 5 (g .log) a p l δ in
-          f .2 (i .0) (t .number) q (t .answer) (i .1) (i .2) late (subst (λ b. Noted log (i .0) (handedOut b (g .follows) q)) (sym (o .1)) (i .3)) (t .given);
-    }
+-- What H knows of its own head, of the list of steps that W stands for.
+abbrev pub HeadOk : Whole → Head → List Event → Type 0
+HeadOk W = Logged (W .follows) (W .account)
 
--- Two of one position have the same digest.
-pub one-digest-at-H : (g : Setup) → length (g .log) ≡ 16 → (h : Head) (log : List Event) → Logged (g .follows) h log → (a b p l m : ℕ) (δ ε : List ℕ)
-    → a ≤ 64 → b ≤ 64 → p ≤ 1048576 → Took g log a p l δ → Took g log b p m ε → δ ≡ ε
-one-digest-at-H g named h log k a b p l m δ ε la lb small x y =
-    k .same a b p δ ε (stands g named h log k a p l δ la small x) (stands g named h log k b p m ε lb small y)
+module _ (W : Whole) (h : Head) (log : List Event) (k : Logged (W .follows) (W .account) h log) where
+  -- A Reserve that H accepted, of which the user has handed out no give-up since, stands: H took none of it in, by the premises.
+  stands : (a p l : ℕ) (δ : List ℕ) → a ≤ 64 → p ≤ 1048576 → Took W log a p l δ → Stands (W .follows) log a p δ
+  unfolding Belongs
+  stands a p l δ listed small t =
+      let q = request 5 (W .group .log) a p l δ in
+      let r = reserve-read (W .group .log) (W .named) a p l δ in
+      record {
+        request = q;
+        answer = t .answer;
+        number = t .number;
+        given = t .given;
+        reserves = (r .0, omega (arith, r .1), omega (arith, r .2), r .3);
+        code = t .code;
+        since = λ j y x late n o z.
+            let f = k .fair j y x n (o .0) z in
+            let by : ℕ → ℕ → List ℕ → ℕ → Type 0 = λ j i q b. Belongs (W .follows) (W .account) b log j i q in
+            let i = t .since (f .0) y (subst (by j (f .0) y) (o .1) (f .1) .2) (o .0, o .2, o .3) in
+            f .2 (i .0) (t .number) q (t .answer) (r .0) late (t .given) (subst (by (t .number) (i .0) q) (sym (o .1)) (i .2)) (i .1);
+      }
+
+  -- Two of one position have the same digest.
+  pub one-digest-at-H : (a b p l m : ℕ) (δ ε : List ℕ) → a ≤ 64 → b ≤ 64 → p ≤ 1048576 → Took W log a p l δ → Took W log b p m ε → δ ≡ ε
+  one-digest-at-H a b p l m δ ε la lb small x y = k .same a b p δ ε (stands a p l δ la small x) (stands b p m ε lb small y)

@@ -16,3 +16,5 @@ pub mod Guards
 pub mod Steps
 pub mod Fork
 pub mod Without
+pub mod ByBytes
+pub mod FairSample

@@ -9,11 +9,15 @@ use Rattle.tree.specs.Expr.{Expr, strings}
 use Rattle.tree.proofs.Agree.{AllIn, Sized, all-in}
 use Rattle.whole_run.specs.World.{Setup, Event, hashed}
 use Rattle.whole_run.specs.Runs.{World}
+use Rattle.fork_bound.specs.Fair.{Account}
 
--- What every lemma speaks of: the group, whose log has a name of 16 bytes, and the world after the whole list, with all that is noted of it.
+-- What every lemma speaks of: the group, whose log has a name of 16 bytes, server H with the account of what its answers belong to, and the
+-- world after the whole list, with all that is noted of it.
 pub record Whole : Type 0 where
   pub group : Setup
   pub named : length (group .log) ≡ 16
+  pub follows : ℕ
+  pub account : Account
   pub world : World
 
 -- the strings that were hashed

@@ -12,7 +12,7 @@ use Rattle.server.specs.Serve.{served}
 use Rattle.user_calls.specs.Calls.{Input}
 use Rattle.whole_run.specs.World.{settingsFor, Event, hashed, signed, accepted, handedOut, answered, User, userStep, dropped}
 use Rattle.whole_run.specs.Runs.{World, Step, user, drops, server, NewWorld, newUser, newServer, newWorld, set, withUser, withServer, serverEvents, step, run, serverAfter}
-use Rattle.fork_bound.specs.Fair.{FairStep, Fair}
+use Rattle.fork_bound.specs.Fair.{Premises, FairStep, Fair, InTime, asMessages}
 use Rattle.fork_bound.proofs.Noted.{Whole, Within, within-left, within-right, Every, every-none, every-cons, every-cond}
 use Rattle.fork_bound.proofs.Histories.{Signed}
 use Rattle.fork_bound.proofs.States.{UserOk, Behind}
@@ -20,7 +20,7 @@ use Rattle.fork_bound.proofs.Events.{step-event}
 use Rattle.fork_bound.proofs.UserSteps.{step-ok, step-behind}
 use Rattle.fork_bound.proofs.Taken.{Guarded, guarded-later}
 use Rattle.fork_bound.proofs.Guards.{guard-step}
-use Rattle.fork_bound.proofs.Heads.{Logged, logged-first, logged-later, logged-server}
+use Rattle.fork_bound.proofs.Heads.{Logged, HeadOk, logged-first, logged-later, logged-server}
 
 -- a server's events are its answers
 abbrev pub IsAnswer : ℕ → Event → Type 0
@@ -38,15 +38,18 @@ only-answers s q n buffer =
 
 module _ (W : Whole) where
   abbrev H : ℕ
-  H = W .group .follows
+  H = W .follows
+
+  abbrev fairness : Premises
+  fairness = asMessages (W .follows) (W .account)
 
   -- The invariant of the world: every user keeps what holds of it, each signature has a history behind it and, at H, its Reserves, and H's
   -- head is past all that H accepted.
   pub record Holds (w : World) : Type 0 where
     pub users : (a : ℕ) → UserOk W a (w .users a)
     pub signatures : (a : ℕ) (t : List ℕ) → List·Memᴰ (signed a t) (w .log) → Signed W a t
-    pub guards : (a : ℕ) → Guarded (W .group) (w .log) a (w .users a)
-    pub head : Logged (W .group .follows) (w .servers (W .group .follows) .head) (w .log)
+    pub guards : (a : ℕ) → Guarded W (w .log) a (w .users a)
+    pub head : HeadOk W (w .servers (W .follows) .head) (w .log)
 
   -- what is noted of a step of user a: requests and signatures of its own
   abbrev OfUser : ℕ → Event → Type 0
@@ -69,35 +72,36 @@ module _ (W : Whole) where
       behind (answered s q x) b = b
 
   -- a user after a step of its own
-  holds-user : (w : World) (a : ℕ) (u : User) (es : List Event) → Holds w → UserOk W a u → Guarded (W .group) (es ++ w .log) a u → Every (OfUser a) es
+  holds-user : (w : World) (a : ℕ) (u : User) (es : List Event) → Holds w → UserOk W a u → Guarded W (es ++ w .log) a u → Every (OfUser a) es
       → Holds (withUser w a u es)
   unfolding withUser
   holds-user w a u es h ok guard own =
       record {
         users = λ b. by-eqb (λ t. UserOk W b (cond t u (w .users b))) b a (λ e. rw e ok) (λ _. h .users b);
         signatures = λ b t m. elim (List·Memᴰ·append-cases es m) [ inl x ↦ own (signed b t) x .1 | inr y ↦ h .signatures b t y ];
-        guards = λ b. by-eqb (λ t. Guarded (W .group) (es ++ w .log) b (cond t u (w .users b))) b a (λ e. rw e guard)
-            (λ n. guarded-later (W .group) es (w .log) b (w .users b) (λ s r m. n (own (handedOut b s r) m))
+        guards = λ b. by-eqb (λ t. Guarded W (es ++ w .log) b (cond t u (w .users b))) b a (λ e. rw e guard)
+            (λ n. guarded-later W es (w .log) b (w .users b) (λ s r m. n (own (handedOut b s r) m))
             (λ t m. elim (List·Memᴰ·append-cases es m) [ inl x ↦ absurd (n (own (signed b t) x .0)) | inr y ↦ y ]) (h .guards b));
-        head = logged-later H _ es (w .log) (λ q x m. own (answered H q x) m) (h .head);
+        head = logged-later H (W .account) _ es (w .log) (λ q x m. own (answered H q x) m) (h .head);
       }
 
   -- H after a call of server s
-  head-after : (w : World) (s : ℕ) (q buffer : List ℕ) → FairStep (W .group) w (server s q buffer) → Logged H (w .servers H .head) (w .log)
+  head-after : (w : World) (s : ℕ) (q buffer : List ℕ) → FairStep (W .group) H fairness w (server s q buffer) → HeadOk W (w .servers H .head) (w .log)
       → let o = served (settingsFor (W .group) s) (w .servers s .head) (w .servers s .store) (w .servers s .used) q buffer in
-      Logged H (set (w .servers) s (serverAfter o) H .head) (serverEvents s q (o .out .answered) (o .answer) ++ w .log)
-  unfolding serverAfter FairStep
+      HeadOk W (set (w .servers) s (serverAfter o) H .head) (serverEvents s q (o .out .answered) (o .answer) ++ w .log)
+  unfolding serverAfter FairStep asMessages
   head-after w s q buffer fair k =
       let b = w .servers s in
       let o = served (settingsFor (W .group) s) (b .head) (b .store) (b .used) q buffer in
       let es = serverEvents s q (o .out .answered) (o .answer) in
-      by-eqb (λ t. Logged H (cond t (serverAfter o) (w .servers H) .head) (es ++ w .log)) H s
-      (λ e. subst (λ j. Logged j (o .out .head) (es ++ w .log)) (sym e)
-      (logged-server s (b .head) (w .log) (settingsFor (W .group) s) (b .store) (b .used) q buffer
-      (subst (λ j. Logged j (w .servers j .head) (w .log)) e k) (fair (sym e))))
-      (λ n. logged-later H _ es (w .log) (λ r x m. n (only-answers s q _ _ (answered H r x) m)) k)
+      by-eqb (λ t. HeadOk W (cond t (serverAfter o) (w .servers H) .head) (es ++ w .log)) H s
+      (λ e. subst (λ j. Logged j (W .account) (o .out .head) (es ++ w .log)) (sym e)
+      (logged-server s (W .account) (b .head) (w .log) (settingsFor (W .group) s) (b .store) (b .used) q buffer
+      (subst (λ j. Logged j (W .account) (w .servers j .head) (w .log)) e k)
+      (λ nine z. subst (λ j. InTime j (W .account) (w .log) q) e (fair (sym e) nine z))))
+      (λ n. logged-later H (W .account) _ es (w .log) (λ r x m. n (only-answers s q _ _ (answered H r x) m)) k)
 
-  holds-server : (w : World) (s : ℕ) (q buffer : List ℕ) → FairStep (W .group) w (server s q buffer) → Holds w
+  holds-server : (w : World) (s : ℕ) (q buffer : List ℕ) → FairStep (W .group) H fairness w (server s q buffer) → Holds w
       → Holds (withServer w s q (served (settingsFor (W .group) s) (w .servers s .head) (w .servers s .store) (w .servers s .used) q buffer))
   unfolding withServer
   holds-server w s q buffer fair h =
@@ -110,7 +114,7 @@ module _ (W : Whole) where
       record {
         users = h .users;
         signatures = λ a t m. h .signatures a t (old a t m);
-        guards = λ a. guarded-later (W .group) es (w .log) a (w .users a) (λ t r m. only (handedOut a t r) m) (old a) (h .guards a);
+        guards = λ a. guarded-later W es (w .log) a (w .users a) (λ t r m. only (handedOut a t r) m) (old a) (h .guards a);
         head = head-after w s q buffer fair (h .head);
       }
 
@@ -118,7 +122,7 @@ module _ (W : Whole) where
   unfolding dropped
   dropped-ok a u ok = record { seen = ok .seen; state = ok .state; call = tt; out = λ e. absurd (omega arith) }
 
-  dropped-guarded : (log : List Event) (a : ℕ) (u : User) → Guarded (W .group) log a u → Guarded (W .group) log a (dropped u)
+  dropped-guarded : (log : List Event) (a : ℕ) (u : User) → Guarded W log a u → Guarded W log a (dropped u)
   unfolding dropped
   dropped-guarded log a u k = record { signs = k .signs; call = tt }
 
@@ -139,18 +143,19 @@ module _ (W : Whole) where
         out = λ e. absurd (omega arith);
       }
 
-  new-guarded : (b : NewWorld) (a : ℕ) → Guarded (W .group) [] a (newUser (b .users a))
+  new-guarded : (b : NewWorld) (a : ℕ) → Guarded W [] a (newUser (b .users a))
   unfolding newUser
   new-guarded b a = record { signs = λ t m. absurd (List·Memᴰ·not-nil m); call = tt }
 
-  pub all-hold : (b : NewWorld) (xs : List Step) → Fair (W .group) (run (W .group) b) xs → Within W (run (W .group) b xs .log) → Holds (run (W .group) b xs)
+  pub all-hold : (b : NewWorld) (xs : List Step) → Fair (W .group) H fairness (run (W .group) b) xs → Within W (run (W .group) b xs .log)
+      → Holds (run (W .group) b xs)
   unfolding run newWorld newServer step withUser withServer Fair FairStep
   all-hold b [] fair f =
       record {
         users = new-ok b;
         signatures = λ a t m. absurd (List·Memᴰ·not-nil m);
         guards = new-guarded b;
-        head = logged-first H (b .servers H);
+        head = logged-first H (W .account) (b .servers H);
       }
   all-hold b (user a i ∷ xs) fair f =
       let w = run (W .group) b xs in

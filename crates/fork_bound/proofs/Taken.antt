@@ -9,7 +9,9 @@ use Rattle.tree.specs.Label.{owner}
 use Rattle.tree.specs.Message.{request, requestKind, requestPosition, requestBody, answerCode, signedText}
 use Rattle.user.specs.Outcome.{State}
 use Rattle.user_calls.specs.Calls.{Call, idle, updating, writing, reading, givingUp}
-use Rattle.whole_run.specs.World.{Setup, Event, signed, handedOut, answered, Noted, User}
+use Rattle.whole_run.specs.World.{Event, signed, handedOut, answered, Noted, User}
+use Rattle.fork_bound.specs.Fair.{Account, Belongs}
+use Rattle.fork_bound.proofs.Noted.{Whole}
 use Rattle.fork_bound.proofs.Order.{noted-later, noted-before}
 use Rattle.fork_bound.proofs.States.{openPosition, openDigest}
 
@@ -17,18 +19,24 @@ use Rattle.fork_bound.proofs.States.{openPosition, openDigest}
 abbrev pub GivesUp : ℕ → List ℕ → List ℕ → Type 0
 GivesUp p δ r = (requestKind r ≡ 9) × (requestPosition r ≡ p) × (requestBody r ≡ δ)
 
-module _ (g : Setup) where
-  abbrev H : ℕ
-  H = g .follows
+-- what an answer belongs to stays so
+pub belongs-later : (H : ℕ) (account : Account) (es log : List Event) (a j i : ℕ) (q : List ℕ) → Belongs H account a log j i q
+    → Belongs H account a (es ++ log) j i q
+unfolding Belongs
+belongs-later H account es log a j i q b = (b .0, b .1, noted-later es log _ _ (b .2))
 
-  -- H accepted this Reserve of user a, which had handed it out since each give-up of it that it had handed out to H
+module _ (W : Whole) where
+  abbrev H : ℕ
+  H = W .follows
+
+  -- H accepted this Reserve of user a; its answer belongs to a handing-out since each give-up of it that the user had handed out to H
   pub record Took (log : List Event) (a p l : ℕ) (δ : List ℕ) : Type 0 where
     pub answer : List ℕ
     pub number : ℕ
-    pub given : Noted log number (answered H (request 5 (g .log) a p l δ) answer)
+    pub given : Noted log number (answered H (request 5 (W .group .log) a p l δ) answer)
     pub code : answerCode answer ≡ 0
     pub since : (m : ℕ) (r : List ℕ) → Noted log m (handedOut a H r) → GivesUp p δ r
-        → (i : ℕ) × (m < i) × (i < number) × Noted log i (handedOut a H (request 5 (g .log) a p l δ))
+        → (i : ℕ) × (m < i) × Belongs H (W .account) a log number i (request 5 (W .group .log) a p l δ)
 
   -- no give-up of it is handed out
   abbrev pub NoneGivesUp : List Event → ℕ → ℕ → List ℕ → Type 0
@@ -42,14 +50,14 @@ module _ (g : Setup) where
         given = noted-later es log _ _ (t .given);
         code = t .code;
         since = λ m r y e. elim (noted-before es log m _ y) [
-          | inl z ↦ (let i = t .since m r z e in (i .0, i .1, i .2, noted-later es log _ _ (i .3)))
+          | inl z ↦ (let i = t .since m r z e in (i .0, i .1, belongs-later H (W .account) es log a _ _ _ (i .2)))
           | inr z ↦ absurd (none r (z .0) e)
         ];
       }
 
   -- H accepted the Reserves of levels below j that are its own to accept
   abbrev pub TookBelow : List Event → ℕ → ℕ → List ℕ → ℕ → Type 0
-  TookBelow log a p δ j = (l : ℕ) → l < j → l ≤ lg p → owner (g .servers) p l ≡ H → Took log a p l δ
+  TookBelow log a p δ j = (l : ℕ) → l < j → l ≤ lg p → owner (W .group .servers) p l ≡ H → Took log a p l δ
 
   -- and so those of the open write that a call goes on with
   abbrev pub CallTook : List Event → ℕ → State → Call → Type 0
@@ -67,7 +75,7 @@ module _ (g : Setup) where
   pub record Firm (log : List Event) (a : ℕ) (σ : State) (text : List ℕ) : Type 0 where
     pub p : ℕ
     pub δ : List ℕ
-    pub is : text ≡ signedText (g .log) p δ
+    pub is : text ≡ signedText (W .group .log) p δ
     pub small : p ≤ 1048576
     pub took : TookBelow log a p δ (suc (lg p))
     pub passed : Passed p σ

@@ -12,9 +12,9 @@ use Rattle.user.proofs.Passed.{by-cond}
 use Rattle.user_calls.specs.Calls.{Call, idle, updating, writing, reading, givingUp, Input, startUpdate, startWrite, startRead, startGiveUp, answer, taken, stepped}
 use Rattle.whole_run.specs.World.{Setup, settingsFor, handedOut, answered, User, returned, after, userStep, dropped}
 use Rattle.whole_run.specs.Runs.{World, Step, user, drops, server, NewWorld, newUser, newWorld, withUser, withServer, serverEvents, step, run}
-use Rattle.fork_bound.specs.Fair.{SinceGiveUps, Gave, FairInput, FairStep, Fair}
+use Rattle.fork_bound.specs.Fair.{FairInput, FairStep, Fair, Account, SinceGiveUps, Gave, asMessages, anyEarlier, withoutGiveUps}
 use Rattle.whole_run.proofs.Refusals.{refused-step, accepted-step}
-use Rattle.fork_bound.specs.Claim.{StartsNone, NoGiveUp, AnswerGiven, AnswersGiven, ForkBound, BoundWithoutGiveUps}
+use Rattle.fork_bound.specs.Claim.{StartsNone, NoGiveUp, ForkBound, BoundWithoutGiveUps}
 use Rattle.fork_bound.proofs.Noted.{Whole}
 use Rattle.fork_bound.proofs.Order.{noted-in, numbered}
 use Rattle.fork_bound.proofs.States.{GivingUp, UserOk}
@@ -74,20 +74,18 @@ giving-up W own (writing w) x = x
 giving-up W own (reading r) x = x
 giving-up W own (givingUp g) x = x
 
-module _ (g : Setup) (named : length (g .log) ≡ 16) (b : NewWorld) where
+module _ (g : Setup) (named : length (g .log) ≡ 16) (H : ℕ) (account : Account) (b : NewWorld) where
   -- a step's premise, where no give-up was handed out
-  given-fair : (w : World) → None w → (a : ℕ) (i : Input) → AnswerGiven g w (user a i) → FairStep g w (user a i)
-  unfolding AnswerGiven FairStep FairInput Gave SinceGiveUps
-  given-fair w n a (startUpdate m) h = (tt, tt)
-  given-fair w n a (startWrite m entry randomizer) h = (h, tt)
-  given-fair w n a (startRead m i) h = (tt, tt)
-  given-fair w n a (startGiveUp m) h = (tt, tt)
-  given-fair w n a (answer x) h = (
-    tt,
-    λ e.
-        let j = numbered (w .log) (answered (g .follows) (w .users a .sent .bytes) x) (h e) in
-        (j .0, j .1, λ _ m r y nine. absurd (n .handed a (g .follows) r (noted-in (w .log) m _ y) nine)),
-  )
+  given-fair : (w : World) → None w → (a : ℕ) (i : Input) → FairInput H (withoutGiveUps H) a (w .log) (w .users a) i
+      → FairInput H (asMessages H account) a (w .log) (w .users a) i
+  unfolding FairInput asMessages withoutGiveUps Gave SinceGiveUps
+  given-fair w n a (startUpdate m) h = tt
+  given-fair w n a (startWrite m entry randomizer) h = tt
+  given-fair w n a (startRead m i) h = tt
+  given-fair w n a (startGiveUp m) h = tt
+  given-fair w n a (answer x) h = λ e.
+      let j = numbered (w .log) (answered H (w .users a .sent .bytes) x) (h e) in
+      (j .0, j .1, λ _ m r y nine. absurd (n .handed a H r (noted-in (w .log) m _ y) nine))
 
   -- what a user's step hands out is no give-up
   none-handed : (W : Whole) (a : ℕ) (u : User) → UserOk W a u → (i : Input) → UserOk W a (userStep (settingsFor (W .group) a) u i .user)
@@ -105,16 +103,17 @@ module _ (g : Setup) (named : length (g .log) ≡ 16) (b : NewWorld) where
       ]
 
   -- So every list without give-ups is one of the claim's.
-  all-fair : (xs : List Step) → NoGiveUp xs → AnswersGiven g (run g b) xs → Fair g (run g b) xs × None (run g b xs)
-  unfolding NoGiveUp AnswersGiven Fair FairStep run newWorld newUser step withUser withServer dropped
+  all-fair : (xs : List Step) → NoGiveUp xs → Fair g H (withoutGiveUps H) (run g b) xs
+      → Fair g H (asMessages H account) (run g b) xs × None (run g b xs)
+  unfolding NoGiveUp Fair FairStep withoutGiveUps run newWorld newUser step withUser withServer dropped
   all-fair [] n h = (tt, record { calls = λ a x. x; handed = λ a s r m _. List·Memᴰ·not-nil m })
   all-fair (user a i ∷ xs) n h =
       let ih = all-fair xs (n .1) (h .1) in
       let w = run g b xs in
       let u = w .users a in
       let t = userStep (settingsFor g a) u i in
-      let f : FairStep g w (user a i) = given-fair w (ih .1) a i (h .0) in
-      let W : Whole = record { group = g; named = named; world = run g b (user a i ∷ xs) } in
+      let f : FairStep g H (asMessages H account) w (user a i) = (h .0 .0, λ z. given-fair w (ih .1) a i (h .0 .1 z)) in
+      let W : Whole = record { group = g; named = named; follows = H; account = account; world = run g b (user a i ∷ xs) } in
       let before = all-hold W b xs (ih .0) (λ e m. Memᴰ·append-right (t .events) m) .users a in
       let new = step-ok W a u before i (f .0) (λ e m. Memᴰ·append-left (w .log) m) in
       let none = after-none (settingsFor g a) u i (n .0) (ih .1 .calls a) in (
@@ -137,8 +136,8 @@ module _ (g : Setup) (named : length (g .log) ≡ 16) (b : NewWorld) where
         },
       )
   all-fair (server s q buffer ∷ xs) n h =
-      let ih = all-fair xs (n .1) (h .1) in (
-        (λ _ nine _. absurd (n .0 nine), ih .0),
+      let ih = all-fair xs n (h .1) in (
+        (λ e nine z. absurd (h .0 e nine z), ih .0),
         record {
           calls = ih .1 .calls;
           handed = λ c t r m nine. elim (List·Memᴰ·append-cases (serverEvents s q _ _) m) [
@@ -151,4 +150,5 @@ module _ (g : Setup) (named : length (g .log) ≡ 16) (b : NewWorld) where
 -- So document 01's claim, with document 01's premises, follows.
 pub bound-without-give-ups : BoundWithoutGiveUps
 unfolding BoundWithoutGiveUps ForkBound
-bound-without-give-ups g named H-some H-one b xs n h = fork-bound g named H-some H-one b xs (all-fair g named b xs n h .0)
+bound-without-give-ups g named H H-some H-one b xs n h =
+    fork-bound g named H H-some H-one anyEarlier b xs (all-fair g named H anyEarlier b xs n h .0)

@@ -5,11 +5,10 @@ use Prim.Native.Nat.{ℕ, _+_, _-_, _≤_, min}
 use lib.ListN.{length}
 use Rattle.tree.specs.Expr.{NoCollision}
 use Rattle.tree.specs.Label.{wait}
-use Rattle.tree.specs.Message.{requestKind}
 use Rattle.user_calls.specs.Calls.{Input, startUpdate, startWrite, startRead, startGiveUp, answer}
-use Rattle.whole_run.specs.World.{Setup, hashed, signed, accepted, answered}
+use Rattle.whole_run.specs.World.{Setup, hashed, signed, accepted}
 use Rattle.whole_run.specs.Runs.{World, Step, user, drops, server, NewWorld, run}
-use Rattle.fork_bound.specs.Fair.{Fair}
+use Rattle.fork_bound.specs.Fair.{Fair, Account, asMessages, withoutGiveUps}
 
 -- The first exception: "users hashed two different strings to one SHA-256 result". Here it did not happen.
 unfoldable pub NoneCollide : World → Type 0
@@ -37,13 +36,13 @@ unfoldable pub BoundHolds : Setup → World → Type 0
 BoundHolds g w = NoneCollide w → NoneForged w → (a c d x y : ℕ) (e f : List ℕ) → HasRead w a d x e → HasRead w c d y f → Differ x e y f
     → Bounded g w a c d
 
--- The claim, for every group with a log name of 16 bytes, every server H of it, all that a start leaves free, and every list of fair
--- steps.
+-- The claim, for every group with a log name of 16 bytes, every server H of it, every account of what H's answers belong to, all that a
+-- start leaves free, and every list of fair steps.
 unfoldable pub ForkBound : Type 0
-ForkBound = (g : Setup) → length (g .log) ≡ 16 → 1 ≤ g .follows → g .follows ≤ g .servers → (b : NewWorld) (xs : List Step)
-    → Fair g (run g b) xs → BoundHolds g (run g b xs)
+ForkBound = (g : Setup) → length (g .log) ≡ 16 → (H : ℕ) → 1 ≤ H → H ≤ g .servers → (account : Account) (b : NewWorld) (xs : List Step)
+    → Fair g H (asMessages H account) (run g b) xs → BoundHolds g (run g b xs)
 
--- A list in which nobody starts a give-up, and no server that follows the rules takes one in.
+-- A list in which nobody starts a give-up, as document 01 has it.
 abbrev pub StartsNone : Input → Type 0
 StartsNone (startUpdate m) = Unit {0}
 StartsNone (startWrite m entry randomizer) = Unit {0}
@@ -55,30 +54,15 @@ unfoldable pub NoGiveUp : List Step → Type 0
 NoGiveUp [] = Unit {0}
 NoGiveUp (user a i ∷ xs) = StartsNone i × NoGiveUp xs
 NoGiveUp (drops a ∷ xs) = NoGiveUp xs
-NoGiveUp (server s q buffer ∷ xs) = (requestKind q ≡ 9 → ⊥) × NoGiveUp xs
+NoGiveUp (server s q buffer ∷ xs) = NoGiveUp xs
 
--- For such a list document 01's premise on answers is enough: "If that request was to H, then H gave this answer to a request of the same
--- bytes".
-unfoldable pub AnswerGiven : Setup → World → Step → Type 0
-AnswerGiven g w (user a (startUpdate m)) = Unit {0}
-AnswerGiven g w (user a (startWrite m entry randomizer)) = length randomizer ≡ 32
-AnswerGiven g w (user a (startRead m i)) = Unit {0}
-AnswerGiven g w (user a (startGiveUp m)) = Unit {0}
-AnswerGiven g w (user a (answer x)) =
-    w .users a .sent .server ≡ g .follows → List·Memᴰ (answered (g .follows) (w .users a .sent .bytes) x) (w .log)
-AnswerGiven g w (drops a) = Unit {0}
-AnswerGiven g w (server s q buffer) = Unit {0}
-
-unfoldable pub AnswersGiven : Setup → (List Step → World) → List Step → Type 0
-AnswersGiven g w [] = Unit {0}
-AnswersGiven g w (x ∷ xs) = AnswerGiven g (w xs) x × AnswersGiven g w xs
-
--- So document 01's claim is part of the one above.
+-- So document 01's claim is part of the one above: "H takes in any bytes as a request, whoever sent them", and accepts no give-up.
 unfoldable pub BoundWithoutGiveUps : Type 0
-BoundWithoutGiveUps = (g : Setup) → length (g .log) ≡ 16 → 1 ≤ g .follows → g .follows ≤ g .servers → (b : NewWorld) (xs : List Step)
-    → NoGiveUp xs → AnswersGiven g (run g b) xs → BoundHolds g (run g b xs)
+BoundWithoutGiveUps = (g : Setup) → length (g .log) ≡ 16 → (H : ℕ) → 1 ≤ H → H ≤ g .servers → (b : NewWorld) (xs : List Step)
+    → NoGiveUp xs → Fair g H (withoutGiveUps H) (run g b) xs → BoundHolds g (run g b xs)
 
 -- The view is the version that a user keeps, though its four events speak of requests and answers.
 unfoldable pub ViewIsVersion : Type 0
-ViewIsVersion = (g : Setup) → length (g .log) ≡ 16 → (b : NewWorld) (xs : List Step) → Fair g (run g b) xs → (a : ℕ)
+ViewIsVersion = (g : Setup) → length (g .log) ≡ 16 → (H : ℕ) (account : Account) (b : NewWorld) (xs : List Step)
+    → Fair g H (asMessages H account) (run g b) xs → (a : ℕ)
     → run g b xs .users a .view ≡ run g b xs .users a .state .kept .version

@@ -1,4 +1,4 @@
--- A computed run: on two servers, of which server 1 follows the rules, user 1 begins a write of position 1.
+-- A computed run: on two servers, of which server 1 follows the rules, user 1 begins a write of position 1 and gives it up.
 use mathlib.Core.Path.{_≡_, refl}
 use mathlib.Core.Bool.{true, false}
 use mathlib.Core.List.{List, [], _∷_}
@@ -32,8 +32,8 @@ use Rattle.whole_run.specs.World as Wo
 use Rattle.whole_run.specs.Runs as Ru
 
 -- Two servers and one user; the memory that it is lent.
-abbrev group : Wo.Setup
-group = record { servers = 2; log = replicate 16 7; users = replicate 56 0; follows = 1 }
+abbrev pub group : Wo.Setup
+group = record { servers = 2; log = replicate 16 7; users = replicate 56 0 }
 
 abbrev memory : Ou.Lent
 memory =
@@ -41,14 +41,14 @@ memory =
     (Ou.keyOf (replicate 16 0) (replicate 32 0) (replicate 65504 0))
 
 -- The answer of a server to a Status, its head being (0, 0), and server 1's answer to the Reserve of (1, 0).
-abbrev fresh : ℕ → List ℕ
+abbrev pub fresh : ℕ → List ℕ
 fresh server = 75 ∷ 65 ∷ 1 ∷ server ∷ 0 ∷ 0 ∷ 0 ∷ 0 ∷ 0 ∷ 0 ∷ 0 ∷ 0 ∷ 0 ∷ 0 ∷ 0 ∷ []
 
 abbrev reserved : List ℕ
 reserved = 75 ∷ 65 ∷ 5 ∷ 1 ∷ 0 ∷ 0 ∷ 0 ∷ 1 ∷ 0 ∷ 0 ∷ []
 
 -- All is zero at the start, and server 1 has no room.
-abbrev zeros-first : Ru.NewWorld
+abbrev pub zeros-first : Ru.NewWorld
 zeros-first =
     record {
       users = λ a. record {
@@ -61,51 +61,68 @@ zeros-first =
       servers = λ s. record { author = 0; digest = replicate 32 0; store = []; digest-size = refl };
     }
 
--- What user 1 has handed out last.
-abbrev out : List Ru.Step → List ℕ
+-- What was noted, and what user 1 has handed out last.
+abbrev pub noted : List Ru.Step → List Wo.Event
+noted xs = Ru.run group zeros-first xs .log
+
+abbrev pub out : List Ru.Step → List ℕ
 out xs = Ru.run group zeros-first xs .users 1 .sent .bytes
 
-abbrev asks-server-1 : List Ru.Step
+abbrev pub asks-server-1 : List Ru.Step
 asks-server-1 = Ru.user 1 (Ca.startWrite memory (1 ∷ 65 ∷ []) (replicate 32 0)) ∷ []
 
-abbrev server-1-answers : List Ru.Step
+abbrev pub server-1-answers : List Ru.Step
 server-1-answers = Ru.server 1 (out asks-server-1) (replicate 2552 0) ∷ asks-server-1
 
-abbrev reserves : List Ru.Step
-reserves = Ru.user 1 (Ca.answer (fresh 2)) ∷ Ru.user 1 (Ca.answer (fresh 1)) ∷ server-1-answers
+abbrev pub asks-server-2 : List Ru.Step
+asks-server-2 = Ru.user 1 (Ca.answer (fresh 1)) ∷ server-1-answers
 
-abbrev server-1-reserves : List Ru.Step
+abbrev pub reserves : List Ru.Step
+reserves = Ru.user 1 (Ca.answer (fresh 2)) ∷ asks-server-2
+
+abbrev pub server-1-reserves : List Ru.Step
 server-1-reserves = Ru.server 1 (out reserves) (replicate 2552 0) ∷ reserves
 
 abbrev puts : List Ru.Step
 puts = Ru.user 1 (Ca.answer reserved) ∷ server-1-reserves
 
--- User 1 asks server 1 for its Status, of the empty log, and server 1 answers; user 1, whose Update ends at p* = 0, hands out the first
--- Reserve; server 1 accepts it, and user 1 goes on with the PutOperation.
-write-begins : (Ru.run group zeros-first server-1-answers .log
-    ≡ Wo.answered 1 (out asks-server-1) (fresh 1) ∷ Wo.handedOut 1 1 (out asks-server-1) ∷ [])
-    × (Me.requestKind (out reserves) ≡ 5) × (Ru.run group zeros-first server-1-reserves .servers 1 .head .position ≡ 1)
-    × (Me.requestKind (out puts) ≡ 6)
-unfolding Le.leastFrom Le.reaches Le.lg Le.isFull Le.highestFull La.nodesTo La.label La.serverOf La.owner Ex.entryText Ex.leafString Ex.pairString Ex.halfString Ex.value Tr.tree Tr.blockOf Tr.node Co.fits Co.tileLevel Co.tilesIn Co.tiles Co.peaks Co.cover Co.piece Co.cut Co.covers Co.nodesBefore Co.fromCover Co.coverDigest Co.coverPath Co.pathBytes Co.pathWritten Me.requestHeader Me.request Me.answerHeader Me.answer Me.recordHeader Me.stored Me.signedText Se.userCount Se.userKey Se.listed Se.groupFits Se.inLog Se.firstCode By.be By.numberAt By.written By.eqs As.userSettingsFit As.progressFits As.openFits As.keptFits As.userFits As.userSetupChecks As.requestRoom As.ofNode As.ofStatus As.asks As.headed As.answerBodyFits As.isServerCode As.isAnswer As.answerChecks As.refused As.done As.asking Ou.noProgress Ou.nothing Up.freshUpdate Up.updateAnswers Up.updateEnded Up.updateWant Up.toldPosition Up.toldLevel Up.toldLabel Up.headHolds Up.statusTaken Up.updateNext Up.updateHashes Up.recordHolds Up.coverGivesOwn Up.coverGivesNew Up.updateChecks Up.arrived Up.updateGoes Up.updateSetup Up.updateStarted Up.updateEarly Up.updateTaken En.strikes En.isSchedule En.entryFits Fi.rulesKept Wr.targetFits Wr.ownLeaf Wr.commitNumber Wr.writeKind Wr.writeLevel Wr.writeWant Wr.pathDigest Wr.writeBody Wr.heldEntry Wr.writeAsks Wr.writeWaits Wr.writeRoom Wr.writeStartChecks Wr.freshWrite Wr.writeStarted Wr.openingChecks Wr.handing Wr.opening Wr.writeOpens Wr.writeUpdates Wr.signsNext Wr.writeChecks Wr.commitSignature Wr.writeSignature Wr.goesOn Wr.signing Wr.committed Wr.writeGoes Wr.writeTaken Sh.levelFits Sh.nodeFits Sh.isStoredKind Sh.requestBodyFits Sh.kindFits Sh.requestFits Sh.recordFits St.recordLength St.recordsIn St.records St.sizes St.whole St.isFor St.first St.isStored Ch.serverSettingsFit Ch.placeFits Ch.earlierFits Ch.headFits Ch.storeFits Ch.ownsNode Ch.isHeads Ch.reservable Ch.isGivable Ch.holdsHead Ch.commitHolds Ch.recordAsked Ch.recordFound Ch.noOther Ch.roomLeft Ch.nodeSource Ch.pullSource Ch.kindChecks Ch.serverSetupChecks Ch.checksOver Ch.requestChecks Sv.noneEarlier Sv.asEarlier Sv.reservedHead Sv.broughtBack Sv.headAfter Sv.appends Sv.storeAfter Sv.usedAfter Sv.nodeHash Sv.recordGiven Sv.bodyGiven Sv.headerGiven Sv.answerGiven Sv.refusedSetup Sv.served Wo.sentBy Wo.returned Wo.viewSent Wo.viewAfter Wo.newReads Wo.after Wo.coverStrings Wo.recordAccepted Wo.updateEvents Wo.openingHashed Wo.writeSigned Wo.writeEvents Wo.readEvents Wo.answerEvents Wo.acceptedEvents Wo.handedEvents Wo.eventsOf Wo.userStep Ca.strayCode Ca.taken Ca.stepped Ru.newUser Ru.newHead Ru.newServer Ru.newWorld Ru.serverAfter Ru.withUser Ru.serverEvents Ru.withServer Ru.step Ru.run ¬32 SHL SHR ROTR Ch Maj Σ0 Σ1 σ0 σ1 K H0 nextW schedule T1 T2 round rounds sums compress zeros padding pad words block hashValue bytes sha256
-write-begins = (refl, refl, refl, refl)
-
--- Before that, user 1 may give the write up: server 1 is told with level 0, the only one that a Reserve was handed out for, and its head is
--- (0, 0) again; with its answer the write is closed.
-abbrev gives-up : List Ru.Step
+-- Before that, user 1 may give the write up: it starts a give-up after server 1 has accepted the Reserve, server 1 accepts that too, and its
+-- answer is taken.
+abbrev pub gives-up : List Ru.Step
 gives-up = Ru.user 1 (Ca.startGiveUp memory) ∷ server-1-reserves
 
-abbrev server-1-gives-up : List Ru.Step
+abbrev pub server-1-gives-up : List Ru.Step
 server-1-gives-up = Ru.server 1 (out gives-up) (replicate 2552 0) ∷ gives-up
 
-abbrev given-up : List ℕ
+abbrev pub given-up : List ℕ
 given-up = 75 ∷ 65 ∷ 9 ∷ 1 ∷ 0 ∷ 0 ∷ 0 ∷ 1 ∷ 0 ∷ 0 ∷ []
 
-abbrev closes : List Ru.Step
+abbrev pub closes : List Ru.Step
 closes = Ru.user 1 (Ca.answer given-up) ∷ server-1-gives-up
 
-write-given-up : (Me.requestKind (out gives-up) ≡ 9) × (Me.requestLevel (out gives-up) ≡ 0)
+-- User 1 asks server 1 for its Status, of the empty log, and server 1 answers; then it asks server 2.
+abbrev pub Asked : Type 0
+Asked =
+    (noted server-1-answers ≡ Wo.answered 1 (out asks-server-1) (fresh 1) ∷ noted asks-server-1)
+    × (Me.requestKind (out asks-server-1) ≡ 1) × (Ru.run group zeros-first asks-server-2 .users 1 .sent .server ≡ 2)
+
+-- User 1, whose Update ends at p* = 0, hands out the first Reserve; server 1 accepts it, and user 1 goes on with the PutOperation.
+abbrev pub Reserved : Type 0
+Reserved =
+    (Me.requestKind (out reserves) ≡ 5) × (Ru.run group zeros-first server-1-reserves .servers 1 .head .position ≡ 1)
+    × (Me.requestKind (out puts) ≡ 6)
+
+-- In a give-up server 1 is told with level 0, the only one that a Reserve was handed out for, and its head is (0, 0) again; with its answer
+-- the write is closed.
+abbrev pub GivenUp : Type 0
+GivenUp =
+    (Me.requestKind (out gives-up) ≡ 9) × (Me.requestLevel (out gives-up) ≡ 0) × (Me.requestAuthor (out gives-up) ≡ 1)
+    × (noted gives-up ≡ Wo.handedOut 1 1 (out gives-up) ∷ noted server-1-reserves)
+    × (noted server-1-gives-up ≡ Wo.answered 1 (out gives-up) given-up ∷ noted gives-up)
     × (Ru.run group zeros-first server-1-gives-up .servers 1 .head .position ≡ 0)
     × (Ru.run group zeros-first gives-up .users 1 .state .kept .progress .begun ≡ true)
     × (Ru.run group zeros-first closes .users 1 .state .kept .opened ≡ false)
+
+pub write-given-up : Asked × Reserved × GivenUp
 unfolding Le.leastFrom Le.reaches Le.lg Le.isFull Le.highestFull La.nodesTo La.label La.serverOf La.owner Ex.entryText Ex.leafString Ex.pairString Ex.halfString Ex.value Tr.tree Tr.blockOf Tr.node Co.fits Co.tileLevel Co.tilesIn Co.tiles Co.peaks Co.cover Co.piece Co.cut Co.covers Co.nodesBefore Co.fromCover Co.coverDigest Co.coverPath Co.pathBytes Co.pathWritten Me.requestHeader Me.request Me.answerHeader Me.answer Me.recordHeader Me.stored Me.signedText Se.userCount Se.userKey Se.listed Se.groupFits Se.inLog Se.firstCode By.be By.numberAt By.written By.eqs As.userSettingsFit As.progressFits As.openFits As.keptFits As.userFits As.userSetupChecks As.requestRoom As.ofNode As.ofStatus As.asks As.headed As.answerBodyFits As.isServerCode As.isAnswer As.answerChecks As.refused As.done As.asking Ou.noProgress Ou.nothing Up.freshUpdate Up.updateAnswers Up.updateEnded Up.updateWant Up.toldPosition Up.toldLevel Up.toldLabel Up.headHolds Up.statusTaken Up.updateNext Up.updateHashes Up.recordHolds Up.coverGivesOwn Up.coverGivesNew Up.updateChecks Up.arrived Up.updateGoes Up.updateSetup Up.updateStarted Up.updateEarly Up.updateTaken En.strikes En.isSchedule En.entryFits Fi.rulesKept Wr.targetFits Wr.ownLeaf Wr.commitNumber Wr.writeKind Wr.writeLevel Wr.writeWant Wr.pathDigest Wr.writeBody Wr.heldEntry Wr.writeAsks Wr.writeWaits Wr.writeRoom Wr.writeStartChecks Wr.freshWrite Wr.writeStarted Wr.openingChecks Wr.handing Wr.opening Wr.writeOpens Wr.writeUpdates Wr.signsNext Wr.writeChecks Wr.commitSignature Wr.writeSignature Wr.goesOn Wr.signing Wr.committed Wr.writeGoes Wr.writeTaken Sh.levelFits Sh.nodeFits Sh.isStoredKind Sh.requestBodyFits Sh.kindFits Sh.requestFits Sh.recordFits St.recordLength St.recordsIn St.records St.sizes St.whole St.isFor St.first St.isStored Ch.serverSettingsFit Ch.placeFits Ch.earlierFits Ch.headFits Ch.storeFits Ch.ownsNode Ch.isHeads Ch.reservable Ch.isGivable Ch.holdsHead Ch.commitHolds Ch.recordAsked Ch.recordFound Ch.noOther Ch.roomLeft Ch.nodeSource Ch.pullSource Ch.kindChecks Ch.serverSetupChecks Ch.checksOver Ch.requestChecks Sv.noneEarlier Sv.asEarlier Sv.reservedHead Sv.broughtBack Sv.headAfter Sv.appends Sv.storeAfter Sv.usedAfter Sv.nodeHash Sv.recordGiven Sv.bodyGiven Sv.headerGiven Sv.answerGiven Sv.refusedSetup Sv.served Wo.sentBy Wo.returned Wo.viewSent Wo.viewAfter Wo.newReads Wo.after Wo.coverStrings Wo.recordAccepted Wo.updateEvents Wo.openingHashed Wo.writeSigned Wo.writeEvents Wo.readEvents Wo.answerEvents Wo.acceptedEvents Wo.handedEvents Wo.eventsOf Wo.userStep Ca.strayCode Ca.taken Ca.stepped Ru.newUser Ru.newHead Ru.newServer Ru.newWorld Ru.serverAfter Ru.withUser Ru.serverEvents Ru.withServer Ru.step Ru.run ¬32 SHL SHR ROTR Ch Maj Σ0 Σ1 σ0 σ1 K H0 nextW schedule T1 T2 round rounds sums compress zeros padding pad words block hashValue bytes sha256 Gi.sentTo Gi.firstTold Gi.nextTold Gi.giveUpWant Gi.waiting Gi.noGiveUp Gi.giveUpSetup Gi.giveUpChecks Gi.beginning Gi.told Gi.closed Gi.giveUpGoes Gi.giveUpStarted Gi.giveUpTaken
-write-given-up = (refl, refl, refl, refl, refl)
+write-given-up = ((refl, refl, refl), (refl, refl, refl), (refl, refl, refl, refl, refl, refl, refl, refl))
