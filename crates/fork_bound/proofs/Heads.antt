@@ -20,8 +20,8 @@ use Rattle.tree.proofs.Pieces.{piece-whole}
 use Rattle.tree.specs.Setup.{firstCode, userCount, Settings}
 use Rattle.user.proofs.Passed.{by-cond}
 use Rattle.server.specs.declared.Head.{Head}
-use Rattle.server.specs.Shape.{requestBodyFits}
-use Rattle.server.specs.Store.{records}
+use Rattle.store.specs.Shape.{requestBodyFits}
+use Rattle.store.specs.Store.{records}
 use Rattle.server.specs.Checks.{serverSetupChecks, requestChecks, recordFound, pullSource}
 use Rattle.server.specs.Serve.{noneEarlier, asEarlier, reservedHead, broughtBack, headerGiven, bodyGiven, answerGiven, ServeOutcome, refusedSetup, served}
 use Rattle.server.proofs.Codes.{request-codes}

@@ -10,7 +10,7 @@ use Rattle.tree.specs.Level.{lg, highestFull}
 use Rattle.tree.specs.Label.{nodesTo}
 use Rattle.tree.proofs.Cases.{by-bool, by-eqb, cases-le, cases-eq}
 use Rattle.tree.proofs.Levels.{full-iff}
-use Rattle.server.specs.Shape.{nodeFits}
+use Rattle.store.specs.Shape.{nodeFits}
 use Rattle.user_write.specs.Write.{commitNumber}
 use Rattle.honest_run.proofs.Invariant.{PutKind, numberOf, has, reached}
 use Rattle.honest_run.proofs.Heads.{nodes-suc}

@@ -14,7 +14,7 @@ use Rattle.tree.specs.Level.{lg}
 use Rattle.tree.specs.Label.{label, owner}
 use Rattle.tree.specs.Message.{answer}
 use Rattle.tree.proofs.Cases.{cases-eq}
-use Rattle.server.specs.Shape.{levelFits, nodeFits, requestBodyFits}
+use Rattle.store.specs.Shape.{levelFits, nodeFits, requestBodyFits}
 use Rattle.server.specs.Checks.{isHeads, isGivable, recordFound, pullSource}
 use Rattle.server.specs.Serve.{broughtBack, bodyGiven}
 use Rattle.server.proofs.Codes.{code-give-up}

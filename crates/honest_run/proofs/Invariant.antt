@@ -17,8 +17,8 @@ use Rattle.tree.specs.Read.{readNodes}
 use Rattle.tree.specs.Message.{stored, signedText, answer}
 use Rattle.tree.specs.Setup.{userKey, inLog}
 use Rattle.server.specs.declared.Earlier.{Earlier}
-use Rattle.server.specs.Shape.{nodeFits}
-use Rattle.server.specs.Store.{first}
+use Rattle.store.specs.Shape.{nodeFits}
+use Rattle.store.specs.Store.{first}
 use Rattle.server.specs.Serve.{ServeOutcome, served}
 use Rattle.server.proofs.Served.{Ready}
 use Rattle.server.proofs.After.{recordsOf}

@@ -17,8 +17,8 @@ use Rattle.tree.specs.Setup.{userCount}
 use Rattle.tree.proofs.Cases.{cases-eq}
 use Rattle.tree.proofs.Levels.{lg-below}
 use Rattle.tree.proofs.Pieces.{piece-whole}
-use Rattle.server.specs.Shape.{levelFits, nodeFits, requestBodyFits}
-use Rattle.server.specs.Store.{first, isStored}
+use Rattle.store.specs.Shape.{levelFits, nodeFits, requestBodyFits}
+use Rattle.store.specs.Store.{first, isStored}
 use Rattle.server.specs.Checks.{nodeSource, pullSource, recordFound}
 use Rattle.server.specs.Serve.{nodeHash, recordGiven, bodyGiven}
 use Rattle.server.proofs.Codes.{code-status, code-pull}

@@ -12,8 +12,8 @@ use Rattle.tree.specs.Setup.{inLog}
 use Rattle.tree.proofs.Cases.{cases-eq, and-true}
 use Rattle.tree.proofs.Levels.{lg-below, lg-mono, lg-power, full-low}
 use Rattle.tree.proofs.Messages.{record-kind, record-position, record-level, record-author, record-body, stored-length}
-use Rattle.server.specs.Shape.{levelFits, nodeFits, requestBodyFits}
-use Rattle.server.specs.Store.{isStored}
+use Rattle.store.specs.Shape.{levelFits, nodeFits, requestBodyFits}
+use Rattle.store.specs.Store.{isStored}
 use Rattle.server.proofs.Asked.{body-small, names-node}
 use Rattle.honest_run.specs.Network.{HonestSetup, InRange}
 use Rattle.honest_run.proofs.Invariant.{Item, digestOf, bodyOf, recordOf, PutKind, SignedOk, ItemOk}

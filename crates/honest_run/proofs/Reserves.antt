@@ -20,7 +20,7 @@ use Rattle.tree.proofs.Levels.{lg-below}
 use Rattle.tree.proofs.Pieces.{piece-whole}
 use Rattle.server.specs.declared.Head.{Head}
 use Rattle.server.specs.declared.Earlier.{Earlier}
-use Rattle.server.specs.Shape.{levelFits, nodeFits, requestBodyFits}
+use Rattle.store.specs.Shape.{levelFits, nodeFits, requestBodyFits}
 use Rattle.server.specs.Checks.{isHeads, reservable, recordFound, pullSource}
 use Rattle.server.specs.Serve.{asEarlier, bodyGiven}
 use Rattle.server.proofs.After.{head-level}

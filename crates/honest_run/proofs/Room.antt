@@ -11,7 +11,7 @@ use Rattle.tree.specs.Level.{lg, isFull, highestFull}
 use Rattle.tree.specs.Label.{owner}
 use Rattle.tree.proofs.Cases.{cases-eq}
 use Rattle.tree.proofs.Levels.{full-iff}
-use Rattle.server.specs.Shape.{levelFits, nodeFits}
+use Rattle.store.specs.Shape.{levelFits, nodeFits}
 use Rattle.user_write.specs.Write.{commitNumber, writeKind, writeLevel}
 use Rattle.honest_run.specs.Network.{HonestSetup}
 use Rattle.whole_run.specs.Runs.{Server}

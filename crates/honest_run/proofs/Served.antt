@@ -13,7 +13,8 @@ use Rattle.tree.specs.Setup.{firstCode, userCount, inLog, listed}
 use Rattle.tree.proofs.Cases.{cases-eq, and-true}
 use Rattle.tree.proofs.Messages.{request-header-length, request-begins, request-kind, request-log, request-author, request-position, request-level, request-body}
 use Rattle.server.specs.declared.Head.{Head}
-use Rattle.server.specs.Shape.{nodeFits, requestBodyFits, kindFits, requestFits}
+use Rattle.store.specs.Shape.{nodeFits, requestBodyFits, kindFits}
+use Rattle.server.specs.Checks.{requestFits}
 use Rattle.server.specs.Checks.{placeFits, headFits, serverSetupChecks, requestChecks, kindChecks, ownsNode, recordFound, pullSource}
 use Rattle.server.specs.Serve.{headAfter, storeAfter, usedAfter, bodyGiven, headerGiven, answerGiven, ServeOutcome, served}
 use Rattle.server.proofs.Effects.{head-refused}

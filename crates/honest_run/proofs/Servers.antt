@@ -10,8 +10,8 @@ use Rattle.tree.specs.Message.{stored}
 use Rattle.tree.specs.Setup.{userCount}
 use Rattle.tree.proofs.Cases.{by-bool, cases-eq}
 use Rattle.server.specs.declared.Earlier.{Earlier}
-use Rattle.server.specs.Shape.{nodeFits}
-use Rattle.server.specs.Store.{records, recordsIn, sizes, whole, first}
+use Rattle.store.specs.Shape.{nodeFits}
+use Rattle.store.specs.Store.{records, recordsIn, sizes, whole, first}
 use Rattle.server.specs.Checks.{serverSettingsFit, placeFits, earlierFits, headFits}
 use Rattle.server.specs.Serve.{noneEarlier}
 use Rattle.server.proofs.Asked.{names-node, in-log}

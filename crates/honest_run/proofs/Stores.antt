@@ -19,9 +19,10 @@ use Rattle.tree.specs.Setup.{userKey, firstCode}
 use Rattle.tree.proofs.Cases.{by-bool, and-true}
 use Rattle.tree.proofs.Levels.{lg-below}
 use Rattle.server.specs.declared.Head.{Head}
-use Rattle.server.specs.Shape.{isStoredKind, nodeFits, requestBodyFits}
-use Rattle.server.specs.Store.{first, isFor, isStored}
-use Rattle.server.specs.Checks.{holdsHead, commitHolds, recordAsked, recordFound, noOther, roomLeft, pullSource}
+use Rattle.store.specs.Shape.{isStoredKind, nodeFits, requestBodyFits}
+use Rattle.store.specs.Store.{first, isFor, isStored}
+use Rattle.server.specs.Checks.{holdsHead, commitHolds, recordFound, noOther, roomLeft, pullSource}
+use Rattle.store.specs.Store.{recordAsked}
 use Rattle.server.specs.Serve.{appends, storeAfter, usedAfter, bodyGiven}
 use Rattle.server.proofs.Asked.{names-node, in-log}
 use Rattle.server.proofs.Codes.{put-code}

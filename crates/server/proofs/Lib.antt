@@ -1,7 +1,4 @@
 -- Laws that several proofs cite.
-pub mod Records
-pub mod Scan
-pub mod Appended
 pub mod Asked
 pub mod Judged
 pub mod Codes

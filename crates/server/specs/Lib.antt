@@ -1,6 +1,4 @@
--- Document 01's server: the shapes of requests and records, the store, the order of checks, and what a call leaves.
-pub mod Shape
-pub mod Store
+-- Document 01's server: the shape of requests, the order of checks, and what a call leaves.
 pub mod Checks
 pub mod Serve
 pub mod Inner

@@ -11,7 +11,7 @@ use Rattle.server.specs.declared.Head.{Head}
 use Rattle.server.specs.Checks.{serverSetupChecks}
 use Rattle.server.specs.Serve.{ServeOutcome, served}
 use Rattle.server.proofs.Codes.{passed}
-use Rattle.server.proofs.Appended.{take-written}
+use Rattle.store.proofs.Appended.{take-written}
 use Rattle.server.proofs.Served.{given, served-passed}
 use Rattle.server.proofs.Sizes.{answer-at-most-2552}
 
