@@ -18,14 +18,15 @@ use Rattle.sha256.proofs.Window.{elements}
 use Rattle.tree.specs.Cover.{piece}
 use Rattle.tree.proofs.Cases.{by-eqb, and-true}
 use Rattle.tree.proofs.Messages.{be-one, number-elements, three-parts}
-use Rattle.tree.specs.Setup.{Settings, settings, userCount, groupFits, inLog, firstCode}
+use Rattle.tree.specs.Setup.{Settings, settings, inLog, firstCode}
+use Rattle.user_list.specs.Users.{userCount, groupFits}
 use Rattle.tree.specs.Inner.{settingsOf}
 use Rattle.server.specs.declared.Head.{Head}
 use Rattle.server.specs.declared.Earlier.{Earlier}
 use Rattle.server.specs.declared.Out.{Out}
 use Rattle.server.specs.Checks.{serverSetupChecks, serverSettingsFit, placeFits, headFits}
 use Rattle.server.specs.Serve.{ServeOutcome, refusedSetup, served}
-use Rattle.tree.proofs.Groups.{group-fits}
+use Rattle.user_list.proofs.Lists.{group-fits}
 use Rattle.server.proofs.Served.{served-refused}
 use Rattle.server.proofs.Sizes.{answer-at-most-2552}
 use Rattle.tree.specs.declared.setup.Config.{Config}

@@ -7,9 +7,10 @@ use native.Mathlib.Omega.{arith}
 use lib.Dec.{leb}
 use borrow.Author.Tests.{leb-true}
 use Rattle.tree.proofs.Cases.{cases-le, and-true, untrue}
-use Rattle.tree.proofs.Groups.{group-fits}
+use Rattle.user_list.proofs.Lists.{group-fits}
 use Rattle.tree.specs.declared.setup.Config.{Config}
-use Rattle.tree.specs.Setup.{Settings, settings, groupFits, userCount, listed, firstCode}
+use Rattle.tree.specs.Setup.{Settings, settings, firstCode}
+use Rattle.user_list.specs.Users.{groupFits, userCount, isListed}
 use Rattle.tree.specs.Inner.{settingsOf}
 use Rattle.user.specs.declared.call.Kept.{Kept}
 use Rattle.user.specs.Asking.{userSettingsFit, userFits}

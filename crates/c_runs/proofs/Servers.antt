@@ -7,9 +7,10 @@ use lib.Dec.{eqb, leb}
 use lib.ListN.{length, length-replicate}
 use borrow.Author.Tests.{eq-eqb, ne-eqb, leb-true}
 use Rattle.tree.specs.Message.{requestKind, requestPosition, requestLevel, requestAuthor, requestBody}
-use Rattle.tree.specs.Setup.{Settings, settings, userCount, listed, groupFits}
+use Rattle.tree.specs.Setup.{Settings, settings}
+use Rattle.user_list.specs.Users.{userCount, isListed, groupFits}
 use Rattle.tree.proofs.Cases.{and-true, cases-eq}
-use Rattle.tree.proofs.Groups.{group-fits}
+use Rattle.user_list.proofs.Lists.{group-fits}
 use Rattle.tree.proofs.Levels.{lg-below}
 use Rattle.tree.proofs.Pieces.{piece-length}
 use Rattle.server.specs.declared.Head.{Head}

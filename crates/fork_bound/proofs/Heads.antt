@@ -17,7 +17,8 @@ use Rattle.tree.specs.Message.{request, requestHeader, requestKind, requestAuth
 use Rattle.tree.proofs.Cases.{by-eqb, cases-eq, not-both}
 use Rattle.tree.proofs.Messages.{answer-header-length, request-kind, request-author, request-position, request-body, answer-code}
 use Rattle.tree.proofs.Pieces.{piece-whole}
-use Rattle.tree.specs.Setup.{firstCode, userCount, Settings}
+use Rattle.tree.specs.Setup.{firstCode, Settings}
+use Rattle.user_list.specs.Users.{userCount}
 use Rattle.user.proofs.Passed.{by-cond}
 use Rattle.server.specs.declared.Head.{Head}
 use Rattle.store.specs.Shape.{requestBodyFits}

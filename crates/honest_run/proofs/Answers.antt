@@ -14,9 +14,10 @@ use Rattle.sha256.proofs.Laws.{be-length, eqs-refl}
 use Rattle.tree.specs.Level.{lg, isFull}
 use Rattle.tree.specs.Expr.{entryText}
 use Rattle.tree.specs.Message.{answerHeader, answer, answerCode, answerBody}
-use Rattle.tree.specs.Setup.{userCount, groupFits, Check, firstCode}
+use Rattle.tree.specs.Setup.{Check, firstCode}
+use Rattle.user_list.specs.Users.{userCount, groupFits}
 use Rattle.tree.proofs.Cases.{and-true, by-bool, cases-le, cases-eq}
-use Rattle.tree.proofs.Groups.{Group, group-fits}
+use Rattle.user_list.proofs.Lists.{Group, group-fits}
 use Rattle.tree.proofs.Labels.{owner-range}
 use Rattle.tree.proofs.Levels.{lg-below, full-low}
 use Rattle.tree.proofs.Messages.{answer-header-length, answer-code, answer-body}

@@ -4,7 +4,7 @@ use mathlib.Core.Bool.{false}
 use mathlib.Core.List.{List}
 use Prim.Native.Nat.{ℕ, suc, _-_, _≤_}
 use native.Mathlib.Omega.{arith}
-use Rattle.tree.specs.Setup.{userCount}
+use Rattle.user_list.specs.Users.{userCount}
 use Rattle.tree.proofs.Cases.{not-both}
 use Rattle.server.proofs.After.{head-level}
 use Rattle.whole_run.specs.Runs.{Server}

@@ -12,7 +12,7 @@ use Rattle.sha256.proofs.Laws.{be-length, number-be, eqs-refl}
 use Rattle.tree.specs.Bytes.{eqs, numberAt}
 use Rattle.tree.specs.Tree.{leaves, digest}
 use Rattle.tree.specs.Cover.{at, peaks, tiles, cover, piece}
-use Rattle.tree.specs.Setup.{userCount, listed}
+use Rattle.user_list.specs.Users.{userCount, isListed}
 use Rattle.tree.proofs.Cases.{cases-eq, positive}
 use Rattle.tree.proofs.Honest.{TrueAnswers, true-cover-gives-digest}
 use Rattle.tree.proofs.Pieces.{piece-whole}

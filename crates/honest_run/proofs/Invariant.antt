@@ -15,7 +15,8 @@ use Rattle.tree.specs.Tree.{leaves, digest, node}
 use Rattle.tree.specs.Cover.{at, piece, cover}
 use Rattle.tree.specs.Read.{readNodes}
 use Rattle.tree.specs.Message.{stored, signedText, answer}
-use Rattle.tree.specs.Setup.{userKey, inLog}
+use Rattle.tree.specs.Setup.{inLog}
+use Rattle.user_list.specs.Users.{userKey}
 use Rattle.server.specs.declared.Earlier.{Earlier}
 use Rattle.store.specs.Shape.{nodeFits}
 use Rattle.store.specs.Store.{first}

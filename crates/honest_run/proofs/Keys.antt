@@ -10,7 +10,7 @@ use Rattle.lms.specs.Types.{LMOTS_SHA256_N32_W4, LMS_SHA256_M32_H10}
 use Rattle.lms.specs.Tree.{T, treeBytes, treeSize}
 use Rattle.lms.proofs.Nodes.{node-length, tree-length}
 use Rattle.lms.proofs.RoundTrip.{key-length}
-use Rattle.tree.specs.Setup.{userCount, userKey, listed, groupFits}
+use Rattle.user_list.specs.Users.{userCount, userKey, isListed, groupFits}
 use Rattle.tree.proofs.Cases.{cases-le, not-both}
 use Rattle.server.specs.Checks as serverChecks
 use Rattle.user.specs.declared.call.Kept.{Kept}

@@ -13,7 +13,7 @@ use Rattle.tree.specs.Level.{lg, isFull}
 use Rattle.tree.specs.Label.{owner}
 use Rattle.tree.specs.Expr.{entryText}
 use Rattle.tree.specs.Message.{answer}
-use Rattle.tree.specs.Setup.{userCount}
+use Rattle.user_list.specs.Users.{userCount}
 use Rattle.tree.proofs.Cases.{cases-eq}
 use Rattle.tree.proofs.Levels.{lg-below}
 use Rattle.tree.proofs.Pieces.{piece-whole}

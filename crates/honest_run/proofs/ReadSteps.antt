@@ -18,7 +18,7 @@ use Rattle.tree.specs.Message.{answerCode, answerBody}
 use Rattle.tree.specs.Setup.{Check, firstCode, Settings}
 use Rattle.tree.proofs.ByteLaws.{written-length}
 use Rattle.tree.proofs.Cases.{by-eqb, cases-eq, positive}
-use Rattle.tree.proofs.Groups.{Group}
+use Rattle.user_list.proofs.Lists.{Group}
 use Rattle.tree.proofs.HonestRead.{TrueReads, true-read-gives-digest}
 use Rattle.user.specs.declared.call.Kept.{Kept}
 use Rattle.user.specs.Asking.{userSettingsFit, keptFits, userFits, userSetupChecks, requestRoom, ofNode, isAnswer}

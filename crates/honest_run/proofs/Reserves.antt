@@ -14,7 +14,7 @@ use Rattle.tree.specs.Level.{lg}
 use Rattle.tree.specs.Label.{nodesTo, label, owner}
 use Rattle.tree.specs.Cover.{piece}
 use Rattle.tree.specs.Message.{requestBody, answer}
-use Rattle.tree.specs.Setup.{userCount}
+use Rattle.user_list.specs.Users.{userCount}
 use Rattle.tree.proofs.Cases.{cases-le, cases-eq, by-eqb}
 use Rattle.tree.proofs.Levels.{lg-below}
 use Rattle.tree.proofs.Pieces.{piece-whole}

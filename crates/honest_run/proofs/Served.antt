@@ -9,7 +9,8 @@ use borrow.Author.Tests.{eq-eqb, ne-eqb, le-leb, eqb-true}
 use Rattle.sha256.proofs.Laws.{eqs-refl}
 use Rattle.tree.specs.Label.{owner}
 use Rattle.tree.specs.Message.{markOf, begins, request, requestHeader, requestKind, requestLog, requestAuthor, requestPosition, requestLevel, requestBody, answer}
-use Rattle.tree.specs.Setup.{firstCode, userCount, inLog, listed}
+use Rattle.tree.specs.Setup.{firstCode, inLog}
+use Rattle.user_list.specs.Users.{userCount, isListed}
 use Rattle.tree.proofs.Cases.{cases-eq, and-true}
 use Rattle.tree.proofs.Messages.{request-header-length, request-begins, request-kind, request-log, request-author, request-position, request-level, request-body}
 use Rattle.server.specs.declared.Head.{Head}

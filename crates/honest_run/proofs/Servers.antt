@@ -7,7 +7,7 @@ use native.Mathlib.Omega.{arith}
 use Rattle.tree.specs.Label.{nodesTo, label}
 use Rattle.tree.specs.Expr.{entryText}
 use Rattle.tree.specs.Message.{stored}
-use Rattle.tree.specs.Setup.{userCount}
+use Rattle.user_list.specs.Users.{userCount}
 use Rattle.tree.proofs.Cases.{by-bool, cases-eq}
 use Rattle.server.specs.declared.Earlier.{Earlier}
 use Rattle.store.specs.Shape.{nodeFits}

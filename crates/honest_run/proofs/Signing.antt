@@ -13,7 +13,7 @@ use Rattle.lms.specs.Claims.{RoundTrip, SignatureLength}
 use Rattle.lms.proofs.RoundTrip.{round-trip, set-fits, signature-length}
 use Rattle.tree.specs.Expr.{entryText}
 use Rattle.tree.specs.Message.{signedText}
-use Rattle.tree.specs.Setup.{userKey}
+use Rattle.user_list.specs.Users.{userKey}
 use Rattle.tree.proofs.Cases.{cases-eq, not-both}
 use Rattle.user.specs.declared.call.Kept.{Kept}
 use Rattle.user.specs.Outcome.{State}

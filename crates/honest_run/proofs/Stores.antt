@@ -15,7 +15,8 @@ use Rattle.lms.specs.Check.{checkOf, isValid}
 use Rattle.tree.specs.Level.{lg}
 use Rattle.tree.specs.Label.{label, owner}
 use Rattle.tree.specs.Message.{requestKind, requestBody, stored, recordKind, recordPosition, recordLevel, signedText, answer}
-use Rattle.tree.specs.Setup.{userKey, firstCode}
+use Rattle.tree.specs.Setup.{firstCode}
+use Rattle.user_list.specs.Users.{userKey}
 use Rattle.tree.proofs.Cases.{by-bool, and-true}
 use Rattle.tree.proofs.Levels.{lg-below}
 use Rattle.server.specs.declared.Head.{Head}

@@ -15,7 +15,7 @@ use Rattle.tree.specs.Setup.{Check, firstCode, Settings}
 use Rattle.tree.proofs.ByteLaws.{written-length}
 use Rattle.tree.proofs.Cases.{by-bool, cases-le, cases-eq, positive}
 use Rattle.tree.proofs.Counts.{cover-at-most-39}
-use Rattle.tree.proofs.Groups.{Group}
+use Rattle.user_list.proofs.Lists.{Group}
 use Rattle.user.specs.declared.call.Kept.{Kept}
 use Rattle.user.specs.Asking.{userSettingsFit, keptFits, userFits, userSetupChecks, requestRoom, isAnswer, ofNode, ofStatus}
 use Rattle.user.specs.Outcome.{State, Lent, withHashes}

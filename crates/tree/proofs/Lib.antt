@@ -14,7 +14,6 @@ pub mod ReadLaws
 pub mod Grows
 pub mod Messages
 pub mod CheckLists
-pub mod Groups
 pub mod Asked
 pub mod Walks
 pub mod Paths

@@ -1,0 +1,2 @@
+-- Laws of the user list.
+pub mod Lists

@@ -1,0 +1,2 @@
+-- The user list.
+pub mod Users
