@@ -184,9 +184,9 @@ module _ (b : List ℕ) (bytes : (i : ℕ) → getD b i 0 < 256) where
       (append-assoc (elements b 0 7) (take 32 (drop 7 b)) (drop 39 b) ∙ rw digest (elements-rest 7 0 (omega arith)))
 
 -- Bytes with a mark above 1 are a head out of range, and every call refuses it with 22.
-head-mark-out-of-range : (count : ℕ) (b : List ℕ) → leb (getD b 39 0) 1 ≡ false → headFits count (headOf b) ≡ false
+head-mark-out-of-range : (users b : List ℕ) → leb (getD b 39 0) 1 ≡ false → headFits users (headOf b) ≡ false
 unfolding headFits placeFits headOf inLog
-head-mark-out-of-range count b e = rw e
+head-mark-out-of-range users b e = rw e
 
 -- what a server's settings that fit say of the two numbers
 numbers-fit : (servers own : ℕ) (users : List ℕ) → serverSettingsFit servers own users ≡ true → (servers ≤ 16) × (own ≤ 64)
@@ -202,7 +202,7 @@ and-no : (b : Bool) → b && false ≡ false
 and-no true = refl
 and-no false = refl
 
-head-unfit : (s : Settings) (h : Head) (store : List ℕ) (used : ℕ) (answer : List ℕ) → headFits (userCount (s .users)) h ≡ false
+head-unfit : (s : Settings) (h : Head) (store : List ℕ) (used : ℕ) (answer : List ℕ) → headFits (s .users) h ≡ false
     → firstCode (serverSetupChecks s h store used answer) ≡ 22
 unfolding serverSetupChecks firstCode
 head-unfit s h store used answer e = rw (e, and-no (serverSettingsFit (s .servers) (s .own) (s .users)))
@@ -256,5 +256,5 @@ pub head-mark-refused : (servers own : ℕ) (log users head store : List ℕ) (u
 unfolding serverAnswered resultOf refusedSetup
 head-mark-refused servers own log users head store used q answer e =
     let s : Settings = settings servers own log users in
-    let unfit : firstCode (serverSetupChecks s (headOf head) store used answer) ≡ 22 = head-unfit s (headOf head) store used answer (head-mark-out-of-range (userCount users) head e) in
+    let unfit : firstCode (serverSetupChecks s (headOf head) store used answer) ≡ 22 = head-unfit s (headOf head) store used answer (head-mark-out-of-range users head e) in
     ap (λ (x : ServeOutcome). x .out .code) (served-refused s (headOf head) store used q answer 22 (sym unfit) (λ z. omega arith))

@@ -41,7 +41,7 @@ module _ {A : Type 0} (f : ℕ → ℕ → A) (x : A) (fits : ℕ → ℕ → Bo
 
 -- what a user's settings that fit say of the two numbers
 numbers-fit : (s : Settings) → userSettingsFit s ≡ true → (s .servers ≤ 16) × (s .own ≤ 64)
-unfolding userSettingsFit listed
+unfolding userSettingsFit isListed
 numbers-fit s t =
     let a = and-true (groupFits (s .servers) (s .users)) _ t in
     let g = group-fits (s .servers) (s .users) (a .0) in

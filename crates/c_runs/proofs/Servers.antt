@@ -47,10 +47,10 @@ module _ (s : Settings) (h : Head) (store : List ℕ) (used : ℕ) (q answer : L
 
   -- a Reserve that is accepted
   reserved : left .out .code ≡ 0 → requestKind q ≡ 5 → HeadSmall (reservedHead h q)
-  unfolding reservedHead asEarlier listed
+  unfolding reservedHead asEarlier isListed
   reserved ok k =
       let r = setup-passed s h store used answer (accepted-setup s h store used q answer ok) in
-      let f : Fits (userCount (s .users)) q = accepted-fits s h store used q answer ok in
+      let f : Fits (s .users) q = accepted-fits s h store used q answer ok in
       let node = in-log (requestPosition q) (requestLevel q) (names-node (requestKind q) (requestPosition q) (requestLevel q) (λ o. omega arith) (f .node) .0) in
       let p = node .1 .0 in
       let l = node .1 .1 in

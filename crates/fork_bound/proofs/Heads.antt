@@ -18,7 +18,6 @@ use Rattle.tree.proofs.Cases.{by-eqb, cases-eq, not-both}
 use Rattle.tree.proofs.Messages.{answer-header-length, request-kind, request-author, request-position, request-body, answer-code}
 use Rattle.tree.proofs.Pieces.{piece-whole}
 use Rattle.tree.specs.Setup.{firstCode, Settings}
-use Rattle.user_list.specs.Users.{userCount}
 use Rattle.user.proofs.Passed.{by-cond}
 use Rattle.server.specs.declared.Head.{Head}
 use Rattle.store.specs.Shape.{requestBodyFits}
@@ -61,7 +60,7 @@ module _ (s : Settings) (h : Head) (store : List ℕ) (used : ℕ) (q buffer : L
   small-code : code s h store used q buffer < 256
   unfolding requestChecks
   small-code =
-      let rs = records (userCount (s .users)) (take used store) in
+      let rs = records (s .users) (take used store) in
       elim (request-codes s h (recordFound rs q) (pullSource rs q) (length store - used) q) [ inl l ↦ omega (arith, l) | inr e ↦ omega (arith, e) ]
 
   -- the answer that is noted is the one that was given: it has the call's code

@@ -4,7 +4,6 @@ use mathlib.Core.Bool.{Bool, true, cond}
 use mathlib.Core.List.{List, [], _++_, append-nil}
 use Prim.Native.Nat.{ℕ, _+_, _-_, _^_, _≤_, _<_}
 use native.Mathlib.Omega.{arith}
-use lib.Dec.{eqb}
 use lib.ListN.{length, length-append}
 use lib.Pow.{pow-mono}
 use lib.Seq.{take-at}
@@ -16,11 +15,12 @@ use Rattle.tree.specs.Expr.{entryText}
 use Rattle.tree.specs.Message.{answerHeader, answer, answerCode, answerBody}
 use Rattle.tree.specs.Setup.{Check, firstCode}
 use Rattle.user_list.specs.Users.{userCount, groupFits}
-use Rattle.tree.proofs.Cases.{and-true, by-bool, cases-le, cases-eq}
+use Rattle.tree.proofs.Cases.{and-true, by-eqb, cases-le, cases-eq}
 use Rattle.user_list.proofs.Lists.{Group, group-fits}
 use Rattle.tree.proofs.Labels.{owner-range}
 use Rattle.tree.proofs.Levels.{lg-below, full-low}
 use Rattle.tree.proofs.Messages.{answer-header-length, answer-code, answer-body}
+use Rattle.user_list.proofs.Lists.{one-length}
 use Rattle.user.specs.declared.ask.Want.{Want}
 use Rattle.user.specs.declared.call.Kept.{Kept}
 use Rattle.user.specs.Asking.{userSettingsFit, keptFits, ofNode, ofStatus, headed, answerBodyFits, isServerCode, isAnswer, answerChecks}
@@ -61,7 +61,7 @@ right-answer want body k s p l fits =
 
 -- so is one with another of a server's codes, which has no body
 pub coded-answer : (want : Want) (code : ℕ) → want .kind < 256 → want .server < 256 → want .position < 4294967296 → want .level < 256
-    → code < 256 → isServerCode code ≡ true → answerBodyFits (want .kind) 0 ≡ true
+    → code < 256 → isServerCode code ≡ true → (code ≡ 0 → answerBodyFits (want .kind) 0 ≡ true)
     → (isAnswer want (answer (want .kind) (want .server) (want .position) (want .level) code []) ≡ true)
     × (answerCode (answer (want .kind) (want .server) (want .position) (want .level) code []) ≡ code)
 unfolding isAnswer headed answer
@@ -71,8 +71,8 @@ coded-answer want code k s p l small servers none =
     let is : answerCode (header ++ []) ≡ code = answer-code (want .kind) (want .server) (want .position) (want .level) code [] k s p l small in
     let all : length (header ++ []) ≡ 10 = ap length (append-nil header) ∙ n in
     let size : length (header ++ []) - 10 ≡ 0 = omega arith in (
-      rw (is, take-at header [] 10 n, eqs-refl header, servers, size, none, eq-eqb (length (header ++ [])) 10 all)
-          (by-bool (λ b. cond b true true ≡ true) (eqb code 0) (λ _. refl) (λ _. refl)),
+      rw (is, take-at header [] 10 n, eqs-refl header, servers, size, eq-eqb (length (header ++ [])) 10 all)
+          (by-eqb (λ b. cond b (answerBodyFits (want .kind) 0) true ≡ true) code 0 none (λ _. refl)),
       is,
     )
 
@@ -186,7 +186,7 @@ module _ (c : HonestSetup) (L : ℕ → Item) (w g : ℕ) (two : 2 ≤ c .server
         let low = ask .low h in
         let high = ask .high h in
         let i = want .position - 1 in
-        let s = items i (omega arith) .1 .size in
+        let s = items i (omega arith) .1 .size ∙ one-length (publicTo c (c .count)) (L i .author) in
         let d = digest-size L (want .position) in
         ap length (right .3 e) ∙ simp length-append (omega (arith, be-length 2 (L i .author)))
 

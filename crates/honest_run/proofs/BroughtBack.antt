@@ -4,7 +4,6 @@ use mathlib.Core.Bool.{false}
 use mathlib.Core.List.{List}
 use Prim.Native.Nat.{ℕ, suc, _-_, _≤_}
 use native.Mathlib.Omega.{arith}
-use Rattle.user_list.specs.Users.{userCount}
 use Rattle.tree.proofs.Cases.{not-both}
 use Rattle.server.proofs.After.{head-level}
 use Rattle.whole_run.specs.Runs.{Server}
@@ -22,10 +21,10 @@ module _ (c : HonestSetup) (range : InRange c) (L M : ℕ → Item) (w s : ℕ) 
     (also : ServerOk c M w 0 s y) (same : SameBelow L M w) where
   place : (x .head .position ≡ y .head .position) × (x .head .level ≡ y .head .level)
   place =
-      let count = userCount (publicTo c (c .count)) in
-      one-place (x .head .position) (x .head .level) (y .head .position) (y .head .level) (head-level count (x .head) (ok .ready .head))
-      (head-level count (y .head) (also .ready .head)) (head-in-log count (x .head) (ok .ready .head) .0)
-      (head-in-log count (y .head) (also .ready .head) .0)
+      let users = publicTo c (c .count) in
+      one-place (x .head .position) (x .head .level) (y .head .position) (y .head .level) (head-level users (x .head) (ok .ready .head))
+      (head-level users (y .head) (also .ready .head)) (head-in-log users (x .head) (ok .ready .head) .0)
+      (head-in-log users (y .head) (also .ready .head) .0)
       (one-head (c .servers) s _ _ _ (omega (arith, range .two)) last (ok .head) (also .head))
 
   same-head : SameHead (x .head) (y .head)

@@ -48,7 +48,7 @@ module _ (body digest signature : List ℕ) (author : ℕ) (e : body ≡ be 2 au
 pub record-holds : (c : HonestSetup) (L : ℕ → Item) (a w : ℕ) (body : List ℕ) → userCount (publicTo c (c .count)) ≡ c .count → c .count ≤ 64 → 0 < w
     → ItemOk c L (w - 1) × SignedOk c L (w - 1) → body ≡ be 2 (L (w - 1) .author) ++ (digestOf L w ++ L (w - 1) .signature)
     → recordHolds (settingsIn c a) w body ≡ true
-unfolding recordHolds listed
+unfolding recordHolds isListed
 record-holds c L a w body counted few z item e =
     let i = item .0 in
     let one = i .one in

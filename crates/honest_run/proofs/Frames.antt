@@ -2,7 +2,7 @@
 use mathlib.Core.Path.{_≡_, refl, ap, sym, _∙_, subst}
 use mathlib.Core.Bool.{false, true}
 use mathlib.Core.List.{List}
-use Prim.Native.Nat.{ℕ, suc, _+_, _≤_, _<_}
+use Prim.Native.Nat.{ℕ, zero, suc, _+_, _≤_, _<_}
 use native.Mathlib.Omega.{arith}
 use lib.ListN.{length}
 use borrow.Author.Tests.{eq-eqb, ne-eqb}
@@ -16,9 +16,10 @@ use Rattle.user.specs.declared.call.Progress.{Progress}
 use Rattle.user.specs.Outcome.{State, Lent, withProgress, withKept, withHashes, withHeld, withRequest}
 use Rattle.user.proofs.Ranges.{ProgressInRange}
 use Rattle.user.proofs.Passed.{sent-is}
-use Rattle.whole_run.specs.World.{Sent, sentBy}
+use Rattle.user_calls.specs.Calls.{Input}
+use Rattle.whole_run.specs.World.{Sent, sentBy, userStep}
 use Rattle.whole_run.specs.Runs.{NewWorld, set}
-use Rattle.honest_run.specs.Network.{HonestSetup, InRange, settingsIn, Network, reply, inRecords, Act, Run, newNetwork, runOf}
+use Rattle.honest_run.specs.Network.{HonestSetup, InRange, settingsIn, Network, reply, arrives, steps, comesBack, networkAfter, inRecords, Act, Run, newNetwork, runOf}
 use Rattle.honest_run.specs.Claim.{ValidMemory}
 use Rattle.honest_run.proofs.Invariant.{Item, texts, digestOf, OpenOk, KeptOk, serving}
 use Rattle.honest_run.proofs.Log.{same-digest}
@@ -41,6 +42,14 @@ set-same f i x = rw (eq-eqb i i refl)
 -- the states of other numbers stay
 pub set-other : {A : Type 0} (f : ℕ → A) (i : ℕ) (x : A) (j : ℕ) → (j ≡ i → ⊥) → set f i x j ≡ f j
 set-other f i x j n = rw (ne-eqb j i n)
+
+-- a call of user a leaves every other user
+pub others-stay : (c : HonestSetup) (x : Network) (a : ℕ) (i : Input) (k j : ℕ) → (j ≡ a → ⊥) → networkAfter (inRecords c) x a i k .users j ≡ x .users j
+unfolding networkAfter steps arrives
+others-stay c x a i zero j n = set-other (x .users) a (userStep (settingsIn c a) (x .users a) i .user) j n
+others-stay c x a i (suc k) j n =
+    let v = networkAfter (inRecords c) x a i k in
+    set-other (v .users) a (userStep (settingsIn c a) (v .users a) (comesBack c v a) .user) j n ∙ others-stay c x a i k j n
 
 -- what a user that asks has out
 abbrev pub sentFor : HonestSetup → ℕ → Want → List ℕ → Sent

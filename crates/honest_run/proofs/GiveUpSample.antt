@@ -1,5 +1,5 @@
--- The premises of a give-up can be met: the first Write of user 1, cut while its Reserve is out, is open, and to give it up is valid. So the
--- give-up is not refused, leaves nothing open, and every server's head is what it was at first.
+-- The premises of a give-up can be met: the first Write of user 1, cut while its Reserve is out, which arrives, is open, and to give it up is
+-- valid. So the give-up is not refused, leaves nothing open, and every server's head is what it was at first.
 use mathlib.Core.Path.{_≡_, refl, ap, sym, _∙_, subst}
 use mathlib.Core.Logic.{inl}
 use mathlib.Core.Bool.{Bool, true, false, cond, _&&_}
@@ -20,8 +20,8 @@ use Rattle.user_write.proofs.WriteAnswers.{Opens, write-opens}
 use Rattle.user_calls.specs.Calls.{Call, idle, updating, writing, reading, givingUp, Input, startGiveUp, asCall, taken, stepped}
 use Rattle.whole_run.specs.World.{User, returned, after, userStep}
 use Rattle.whole_run.specs.Runs.{newUser}
-use Rattle.honest_run.specs.Network.{settingsIn, Network, reply, answerBytes, comesBack, networkAfter, handed, Act, calls, doAct, newNetwork, runOf, inRecords}
-use Rattle.honest_run.specs.Claim.{ValidInput, ValidCall, countOf, Valid, AllValid, NotRefused, Reaches, Serves, SameHeads, BringsBack, CallsServe, HonestRun}
+use Rattle.honest_run.specs.Network.{settingsIn, Network, reply, answerBytes, arrives, comesBack, networkAfter, handed, Act, calls, doAct, newNetwork, runOf, inRecords}
+use Rattle.honest_run.specs.Claim.{Alone, ValidInput, ValidCall, countOf, Valid, AllValid, NotRefused, Reaches, Serves, SameHeads, BringsBack, CallsServe, HonestRun}
 use Rattle.honest_run.specs.Sample.{small}
 use Rattle.honest_run.proofs.Frames.{set-same, runFrom}
 use Rattle.honest_run.proofs.Exchanges.{Exchanges, exchange-is}
@@ -31,7 +31,7 @@ use Rattle.honest_run.proofs.Theorem.{on-its-way, honest-run}
 use Rattle.honest_run.proofs.Sample.{entry, memory, first, zeros-first, start, range, valid, five}
 
 -- the Write after so many answers
-abbrev at : ℕ → Network
+abbrev pub at : ℕ → Network
 at k = networkAfter (inRecords small) (start .network) 1 first k
 
 passes : (k : ℕ) → k ≤ 5 → (handed (inRecords small) (start .network) 1 first k .code ≡ 0) × (handed (inRecords small) (start .network) 1 first k .ended ≡ eqb k 5)
@@ -40,28 +40,28 @@ passes k h =
     let n = honest-run small range zeros-first [] tt 1 first valid .0 k (omega (arith, five)) in
     (n .0, n .1 ∙ ap (eqb k) five)
 
-way : (k : ℕ) → k < 5 → OnWay small start 1 first (5 - k) (at k)
+pub way : (k : ℕ) → k < 5 → OnWay small start 1 first (5 - k) (at k)
 way k h =
     subst (λ n. OnWay small start 1 first (n - k) (at k)) five (on-its-way small range zeros-first 1 first valid k (omega (arith, five)))
 
-call-at : (k : ℕ) (h : k < 5) → WriteCall small (way k h .log) (way k h .w) (way k h .g) 1 (5 - k) entry (at k .users 1) (at k .servers)
+pub call-at : (k : ℕ) (h : k < 5) → WriteCall small (way k h .log) (way k h .w) (way k h .g) 1 (5 - k) entry (at k .users 1) (at k .servers)
 call-at k h = write-call small start 1 memory entry (replicate 32 0) (5 - k) (at k) (way k h)
 
-three : (k : ℕ) (h : k < 5) → writeAnswers (suc (way k h .w)) ≡ 3
+pub three : (k : ℕ) (h : k < 5) → writeAnswers (suc (way k h .w)) ≡ 3
 unfolding runOf writeAnswers lg leastFrom reaches isFull highestFull
 three k h = ap (λ v. writeAnswers (suc v)) (way k h .holds .count)
 
 one : 1 < 5
 one = omega arith
 
-two : 2 < 5
+pub two : 2 < 5
 two = omega arith
 
 -- by its count of answers it is not open after the first Status, and open after the second
 shut-before : call-at 1 one .call .opened ≡ false
 shut-before = untrue (call-at 1 one .call .opened) (λ t. omega (arith, call-at 1 one .open-call t .count, three 1 one))
 
-open-then : call-at 2 two .call .opened ≡ true
+pub open-then : call-at 2 two .call .opened ≡ true
 open-then =
     let opened : Bool = call-at 2 two .call .opened in
     by-bool (λ b. opened ≡ b → opened ≡ true) opened (λ _ t. t)
@@ -111,25 +111,27 @@ took-open =
     sym same ∙ ap isOpen (call-at 2 two .is) ∙ open-then
 
 -- and only its first Reserve is handed out
-unput : at 2 .users 1 .state .kept .progress .put ≡ false
+pub one-handed : at 2 .users 1 .state .kept .progress ≡ record { levels = 1; put = false; begun = false; done = 0 }
 unfolding after
-unput =
-    ap (λ (u : User). u .state .kept .progress .put) user-then
-    ∙ ap (λ (g : Progress). g .put) (opens .noted took-open ∙ handing-first (suc (took .state .kept .version)))
+one-handed =
+    ap (λ (u : User). u .state .kept .progress) user-then ∙ opens .noted took-open ∙ handing-first (suc (took .state .kept .version))
+
+pub unput : at 2 .users 1 .state .kept .progress .put ≡ false
+unput = ap (λ (g : Progress). g .put) one-handed
 
 -- the call is cut there
-abbrev cut : List Act
-cut = calls 1 first 2 false ∷ []
+abbrev pub cut : List Act
+cut = calls 1 first 2 true ∷ []
 
-all-valid : AllValid small (runFrom small zeros-first) cut
+pub all-valid : AllValid small (runFrom small zeros-first) cut
 unfolding AllValid Valid
 all-valid = (inl (valid, omega (arith, five)), tt)
 
-abbrev gives-up : Input
+abbrev pub gives-up : Input
 gives-up = startGiveUp memory
 
 valid-give-up : ValidCall small (runFrom small zeros-first cut) 1 gives-up
-unfolding ValidInput runOf doAct
+unfolding ValidInput Alone runOf doAct arrives
 valid-give-up =
     record {
       one = omega arith;
@@ -139,7 +141,7 @@ valid-give-up =
     }
 
 -- nothing is written yet
-same-log : runFrom small zeros-first [] .log ≡ runFrom small zeros-first cut .log
+pub same-log : runFrom small zeros-first [] .log ≡ runFrom small zeros-first cut .log
 unfolding runOf doAct
 same-log = sym (wrote-nothing 1 first (handed (inRecords small) (start .network) 1 first 2) (passes 2 (omega arith) .1))
 

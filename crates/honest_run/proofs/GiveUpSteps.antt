@@ -38,9 +38,9 @@ pub told-answers : (n : ℕ) (k : Kept) (code : ℕ) → nextTold n k < 256 → 
     → (code ≡ 0) ⊎ (code ≡ 27) → (isAnswer (giveUpWant n k) (toldAnswer n k code) ≡ true) × (answerCode (toldAnswer n k code) ≡ code)
 unfolding giveUpWant answerBodyFits isServerCode
 told-answers n k code server position level (inl e) =
-    coded-answer (giveUpWant n k) code (omega arith) server position level (omega arith) (rw e) refl
+    coded-answer (giveUpWant n k) code (omega arith) server position level (omega arith) (rw e) (λ _. refl)
 told-answers n k code server position level (inr e) =
-    coded-answer (giveUpWant n k) code (omega arith) server position level (omega arith) (rw e) refl
+    coded-answer (giveUpWant n k) code (omega arith) server position level (omega arith) (rw e) (λ _. refl)
 
 -- a server is done by 0 and by 27
 done-by : (code : ℕ) → (code ≡ 0) ⊎ (code ≡ 27) → (eqb code 0 || eqb code 27) ≡ true

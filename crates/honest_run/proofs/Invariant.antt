@@ -16,7 +16,7 @@ use Rattle.tree.specs.Cover.{at, piece, cover}
 use Rattle.tree.specs.Read.{readNodes}
 use Rattle.tree.specs.Message.{stored, signedText, answer}
 use Rattle.tree.specs.Setup.{inLog}
-use Rattle.user_list.specs.Users.{userKey}
+use Rattle.user_list.specs.Users.{userKey, signatureLength}
 use Rattle.server.specs.declared.Earlier.{Earlier}
 use Rattle.store.specs.Shape.{nodeFits}
 use Rattle.store.specs.Store.{first}
@@ -134,9 +134,13 @@ abbrev pub validAt : HonestSetup → ℕ → Item → List ℕ → Bool
 validAt c i x d =
     isValid (checkOf LMOTS_SHA256_N32_W4 LMS_SHA256_M32_H10 (userKey (publicTo c (c .count)) (x .author)) (signedText (c .log) (suc i) d) (x .signature))
 
+-- how long the signatures of the author at place i are
+abbrev pub signatureAt : HonestSetup → (ℕ → Item) → ℕ → ℕ
+signatureAt c L i = signatureLength (publicTo c (c .count)) (L i .author)
+
 -- a signature of place i that its author's key accepts
 pub record SignedOk (c : HonestSetup) (L : ℕ → Item) (i : ℕ) : Type 0 where
-  pub size : length (L i .signature) ≡ 2508
+  pub size : length (L i .signature) ≡ signatureAt c L i
   pub valid : validAt c i (L i) (digestOf L (suc i)) ≡ true
 
 -- what was written at place i

@@ -10,7 +10,7 @@ use Rattle.lms.specs.Types.{LMOTS_SHA256_N32_W4, LMS_SHA256_M32_H10}
 use Rattle.lms.specs.Tree.{T, treeBytes, treeSize}
 use Rattle.lms.proofs.Nodes.{node-length, tree-length}
 use Rattle.lms.proofs.RoundTrip.{key-length}
-use Rattle.user_list.specs.Users.{userCount, userKey, isListed, groupFits}
+use Rattle.user_list.specs.Users.{userCount, userKey, isListed, listFits, groupFits}
 use Rattle.tree.proofs.Cases.{cases-le, not-both}
 use Rattle.server.specs.Checks as serverChecks
 use Rattle.user.specs.declared.call.Kept.{Kept}
@@ -88,7 +88,7 @@ module _ (c : HonestSetup) (r : InRange c) where
 
   -- the group, and with it each user and server, has settings in range
   group-ok : groupFits (c .servers) (publicTo c (c .count)) ≡ true
-  unfolding groupFits
+  unfolding groupFits listFits
   group-ok =
       let n = public-length (c .count) in
       let whole : length (publicTo c (c .count)) % 56 ≡ 0 = omega arith in
@@ -103,7 +103,7 @@ module _ (c : HonestSetup) (r : InRange c) where
 
   -- so each user has settings in range
   pub user-settings : (a : ℕ) → 1 ≤ a → a ≤ c .count → userChecks.userSettingsFit (settingsIn c a) ≡ true
-  unfolding userChecks.userSettingsFit listed
+  unfolding userChecks.userSettingsFit isListed
   user-settings a one h = rw (group-ok, user-count, le-leb 1 a one, le-leb a (c .count) h)
 
   -- and each server

@@ -49,5 +49,7 @@ pub mod BroughtBack
 pub mod Run
 pub mod Theorem
 pub mod Target
+pub mod Others
 pub mod Sample
 pub mod GiveUpSample
+pub mod RefusedSample

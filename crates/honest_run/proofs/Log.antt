@@ -9,13 +9,14 @@ use lib.ListN.{length}
 use lib.Pow.{pow-pos}
 use Rattle.sha256.proofs.Hashes.{sha256-length}
 use Rattle.tree.specs.Level.{lg}
+use Rattle.user_list.specs.Users.{signatureLength}
 use Rattle.tree.specs.Expr.{entryText, leaf, value}
 use Rattle.tree.specs.Tree.{leaves, digest, node, blockOf, above, tree}
 use Rattle.tree.proofs.Levels.{lg-ge}
 use Rattle.tree.proofs.Trees.{tree-cong}
 use Rattle.tree.proofs.Grows.{block-of-root}
 use Rattle.tree.proofs.Cases.{by-leb}
-use Rattle.honest_run.specs.Network.{HonestSetup}
+use Rattle.honest_run.specs.Network.{HonestSetup, publicTo}
 use Rattle.honest_run.proofs.Invariant.{Item, texts, hashOf, digestOf, SignedOk, ItemOk, validAt}
 
 -- a hash of the log has 32 bytes
@@ -81,7 +82,7 @@ items-stay c L M w same items i h =
         short = subst (λ (y : Item). length (y .entry) ≤ 1024) e (x .0 .short);
       },
       record {
-        size = subst (λ (y : Item). length (y .signature) ≡ 2508) e (x .1 .size);
+        size = subst (λ (y : Item). length (y .signature) ≡ signatureLength (publicTo c (c .count)) (y .author)) e (x .1 .size);
         valid =
             subst (λ (δ : List ℕ). validAt c i (M i) δ ≡ true) d (subst (λ (y : Item). validAt c i y (digestOf L (suc i)) ≡ true) e (x .1 .valid));
       },

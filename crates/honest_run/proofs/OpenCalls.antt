@@ -110,7 +110,8 @@ module _ (c : HonestSetup) (range : InRange c) (r : Run Network) (a : ℕ) (m : 
   left-so : (s : ℕ) → arrives c x a .servers s ≡ serversAfter c (o .log) (o .w) j (x .servers) s
   left-so = put-leaves c (o .log) (o .w) (o .g) j x put a (ok .author) (on .sent)
 
-  servers : (s : ℕ) → 1 ≤ s → s ≤ c .servers → ServerOk c (o .log) (o .w) g′ s (arrives c x a .servers s)
+  -- are as one request more leaves them
+  pub servers : (s : ℕ) → 1 ≤ s → s ≤ c .servers → ServerOk c (o .log) (o .w) (max (o .g) (suc (call .call .answers))) s (arrives c x a .servers s)
   servers s low high = subst (ServerOk c (o .log) (o .w) g′ s) (sym (left-so s)) (put .all-ok s low high)
 
   room : (s : ℕ) → 1 ≤ s → s ≤ c .servers → RoomLeft c (o .log) (o .w) g′ s (arrives c x a .servers s)

@@ -6,6 +6,7 @@ use Prim.Native.Nat.{ℕ, suc, _+_, _≤_, _<_}
 use native.Mathlib.Omega.{arith}
 use lib.ListN.{length}
 use Rattle.tree.proofs.Cases.{not-both}
+use Rattle.user_list.proofs.Lists.{one-length}
 use Rattle.user.specs.Outcome.{State, Lent, Outcome, handingOut}
 use Rattle.user.specs.Asking.{asking}
 use Rattle.user_write.specs.declared.call.Write.{Write}
@@ -51,7 +52,7 @@ module _ (c : HonestSetup) (range : InRange c) (L : ℕ → Item) (w g a left : 
 
   body-fits : 26 + length (bodyAt L w (call .answers)) ≤ length (m .request)
   body-fits =
-      let y = body-small L w (call .answers) (asks .ok .item .short) (λ e. asks .ok .signed (asks .ready e) .1 .size) (asks .few) in
+      let y = body-small L w (call .answers) (asks .ok .item .short) (λ e. asks .ok .signed (asks .ready e) .1 .size ∙ one-length _ _) (asks .few) in
       omega (arith, asks .memory .valid .request)
 
   -- the Write of a user that hands it out

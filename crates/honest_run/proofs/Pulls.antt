@@ -2,7 +2,7 @@
 use mathlib.Core.Path.{_≡_, refl, ap, sym, _∙_, subst}
 use mathlib.Core.Bool.{Bool, true, cond}
 use mathlib.Core.List.{List, [], _++_}
-use Prim.Native.Nat.{ℕ, _-_, _≤_, _<_}
+use Prim.Native.Nat.{ℕ, suc, _-_, _≤_, _<_}
 use native.Mathlib.Omega.{arith}
 use lib.Dec.{eqb}
 use lib.ListN.{length}
@@ -13,7 +13,6 @@ use Rattle.tree.specs.Level.{lg, isFull}
 use Rattle.tree.specs.Label.{owner}
 use Rattle.tree.specs.Expr.{entryText}
 use Rattle.tree.specs.Message.{answer}
-use Rattle.user_list.specs.Users.{userCount}
 use Rattle.tree.proofs.Cases.{cases-eq}
 use Rattle.tree.proofs.Levels.{lg-below}
 use Rattle.tree.proofs.Pieces.{piece-whole}
@@ -25,14 +24,15 @@ use Rattle.server.proofs.Codes.{code-status, code-pull}
 use Rattle.server.proofs.Theorems.{pull-changes-nothing}
 use Rattle.user.specs.declared.ask.Want.{Want}
 use Rattle.user.specs.Asking.{asks}
-use Rattle.honest_run.specs.Network.{HonestSetup, InRange, publicTo, settingsIn}
+use Rattle.user_write.specs.Write.{commitNumber}
+use Rattle.honest_run.specs.Network.{HonestSetup, InRange, publicTo, settingsIn, answerBytes}
 use Rattle.whole_run.specs.Runs.{Server, serverAfter}
-use Rattle.honest_run.proofs.Invariant.{Item, texts, hashOf, bodyOf, recordOf, PutKind, ServerOk, SignedOk, ItemOk, RightBody, CanAsk, PullRight}
+use Rattle.honest_run.proofs.Invariant.{Item, texts, hashOf, bodyOf, recordOf, PutKind, ServerOk, SignedOk, ItemOk, RightBody, CanAsk, serving, PullRight}
 use Rattle.honest_run.proofs.Log.{hash-size, hash-of-leaf}
 use Rattle.honest_run.proofs.Keys.{user-count}
-use Rattle.honest_run.proofs.Served.{server-is, head-in-log, Asked, asked-fields, early-asked, held, kindCode, answered-with}
+use Rattle.honest_run.proofs.Served.{server-is, head-in-log, Asked, asked-fields, early-asked, held, kindCode, refused-with, answered-with}
 use Rattle.honest_run.proofs.Records.{node-in-log, full-within, body-fits, record-fields}
-use Rattle.honest_run.proofs.Counts.{has-old}
+use Rattle.honest_run.proofs.Counts.{has-old, has-not}
 
 -- what is asked for, from its fields
 want-is : (want : Want) (kind p l : ℕ) → want .kind ≡ kind → want .position ≡ p → want .level ≡ l
@@ -83,6 +83,17 @@ module _ (c : HonestSetup) (range : InRange c) (L : ℕ → Item) (w g : ℕ)
         (length (x .store) - x .used) q kind (sym (f .kind-is)) 0 n k (rw (source, some))) in
         pulled body zero-code (rw (source, f .kind-is, ne-eqb kind 1 n, le-leb kind 4 k) gives) right
 
+    -- where nothing is stored, it is answered 8
+    none-stored : 2 ≤ kind → pullSource (held c s x q) q ≡ [] → answerBytes (serving c a s x want []) ≡ answer kind s p l 8 []
+    unfolding requestBodyFits isStored
+    none-stored two source =
+        let f = fields in
+        let early = early-asked c (user-count c range) a kind p l s [] q f one last node (rw (le-leb kind 4 k)) own in
+        let eight : kindCode c s x q ≡ 8 =
+        sym (code-pull (c .log) (publicTo c (c .count)) (x .head) (recordFound (held c s x q) q) (pullSource (held c s x q) q)
+        (length (x .store) - x .used) q kind (sym (f .kind-is)) 8 (λ e. omega arith) k (rw source)) in
+        refused-with c s x q (ok .ready) early a kind p l 8 [] f eight (λ e. omega arith)
+
     -- the record of a kind at the node that is asked for
     stored-old : (of : ℕ) → PutKind of → nodeFits of p l ≡ true → (kind ≡ 1 → ⊥) → p ≤ w → first of p l (held c s x q) ≡ recordOf L of p l
     stored-old of six fits n low =
@@ -96,7 +107,7 @@ module _ (c : HonestSetup) (range : InRange c) (L : ℕ → Item) (w g : ℕ)
       let low : 0 ≤ lg 0 = omega arith in
       let f = fields 1 s 0 0 (omega arith) (omega arith) low refl none ok in
       let request = q 1 s 0 0 (omega arith) (omega arith) low refl none ok in
-      let h = head-in-log (userCount (publicTo c (c .count))) (x .head) (ok .ready .head) in
+      let h = head-in-log (publicTo c (c .count)) (x .head) (ok .ready .head) in
       let told : List ℕ = be 4 (x .head .position) ++ be 1 (x .head .level) in
       pulled 1 s 0 0 (omega arith) (omega arith) low refl none ok told
       (sym (code-status (c .log) (publicTo c (c .count)) (x .head) _ _ _ request 1 (sym (f .kind-is)) refl))
@@ -106,6 +117,22 @@ module _ (c : HonestSetup) (range : InRange c) (L : ℕ → Item) (w g : ℕ)
         λ e. absurd (omega arith),
         λ e. absurd (omega arith),
       )
+
+  -- the Record of an open write is answered 8 until its Commit has arrived
+  pub open-record : (s : ℕ) → w < 1048576 → g ≤ commitNumber (suc w) → owner (c .servers) (suc w) (lg (suc w)) ≡ s → ServerOk c L w g s x
+      → answerBytes (serving c a s x (record { kind = 4; server = s; position = suc w; level = lg (suc w) }) []) ≡ answer 4 s (suc w) (lg (suc w)) 8 []
+  unfolding nodeFits levelFits pullSource
+  open-record s hp few own ok =
+      let p = suc w in
+      let l = lg p in
+      let there = node-in-log p l (omega arith) hp (omega arith) in
+      let fits : nodeFits 4 p l ≡ true = rw (there, eq-eqb l l refl) in
+      let eight : nodeFits 8 p l ≡ true = rw (there, eq-eqb l l refl) in
+      let own4 : (_≡_ {A = ℕ} 4 1 → ⊥) → owner (c .servers) p l ≡ s = λ _. own in
+      let f = fields 4 s p l (omega arith) hp (omega arith) fits own4 ok in
+      none-stored 4 s p l (omega arith) hp (omega arith) fits own4 ok (omega arith)
+      (rw (f .kind-is, f .position-is, f .level-is)
+      (ok .stored 8 p l (omega arith, omega arith) eight own ∙ ap (λ (b : Bool). cond b (recordOf L 8 p l) []) (has-not w g 8 l few)))
 
   -- a Node gives the hash
   module _ (s p l : ℕ) (low : 1 ≤ p) (high : p ≤ w) (ok : ServerOk c L w g s x) (own : owner (c .servers) p l ≡ s) where

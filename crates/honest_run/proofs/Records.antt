@@ -2,21 +2,22 @@
 use mathlib.Core.Path.{_≡_, ap, sym, _∙_}
 use mathlib.Core.Bool.{true}
 use mathlib.Core.List.{List, [], _++_, append-nil}
-use Prim.Native.Nat.{ℕ, _-_, _^_, _≤_, _<_}
+use Prim.Native.Nat.{ℕ, _+_, _-_, _^_, _≤_, _<_}
 use native.Mathlib.Omega.{arith}
 use lib.ListN.{length, length-append}
-use borrow.Author.Tests.{le-leb, lt-ltb, leb-true, eqb-true}
+use borrow.Author.Tests.{eq-eqb, le-leb, lt-ltb, leb-true, eqb-true}
 use Rattle.tree.specs.Level.{lg, isFull}
 use Rattle.tree.specs.Message.{stored, recordKind, recordPosition, recordLevel, recordAuthor, recordBody}
 use Rattle.tree.specs.Setup.{inLog}
 use Rattle.tree.proofs.Cases.{cases-eq, and-true}
 use Rattle.tree.proofs.Levels.{lg-below, lg-mono, lg-power, full-low}
 use Rattle.tree.proofs.Messages.{record-kind, record-position, record-level, record-author, record-body, stored-length}
+use Rattle.user_list.proofs.Lists.{signature-most}
 use Rattle.store.specs.Shape.{levelFits, nodeFits, requestBodyFits}
 use Rattle.store.specs.Store.{isStored}
 use Rattle.server.proofs.Asked.{body-small, names-node}
-use Rattle.honest_run.specs.Network.{HonestSetup, InRange}
-use Rattle.honest_run.proofs.Invariant.{Item, digestOf, bodyOf, recordOf, PutKind, SignedOk, ItemOk}
+use Rattle.honest_run.specs.Network.{HonestSetup, InRange, publicTo}
+use Rattle.honest_run.proofs.Invariant.{Item, digestOf, bodyOf, recordOf, PutKind, signatureAt, SignedOk, ItemOk}
 use Rattle.honest_run.proofs.Log.{hash-size, digest-size}
 
 -- a node of the log
@@ -42,7 +43,7 @@ by-stored-kind kind p l k e six seven eight =
 
 -- the record of a kind, with the size that its kind has
 pub body-fits : (c : HonestSetup) (L : ℕ → Item) (kind p l : ℕ) → 6 ≤ kind → kind ≤ 8 → ItemOk c L (p - 1) → (kind ≡ 8 → SignedOk c L (p - 1))
-    → requestBodyFits kind (length (bodyOf L kind p l)) ≡ true
+    → requestBodyFits (signatureAt c L (p - 1)) kind (length (bodyOf L kind p l)) ≡ true
 unfolding requestBodyFits
 body-fits c L kind p l low high item signed =
     cases-eq kind 6
@@ -51,9 +52,9 @@ body-fits c L kind p l low high item signed =
     (λ e. rw (e, hash-size L p l))
     (λ m.
     let e : kind ≡ 8 = omega arith in
-    let z : length (digestOf L p ++ L (p - 1) .signature) ≡ 2540 =
+    let z : length (digestOf L p ++ L (p - 1) .signature) ≡ 32 + signatureAt c L (p - 1) =
     length-append (digestOf L p) (L (p - 1) .signature) ∙ omega (arith, digest-size L p, signed e .size) in
-    rw (e, z)))
+    rw e (eq-eqb _ _ z)))
 
 -- a record of the log, as it is read
 pub record Held (L : ℕ → Item) (kind p l : ℕ) : Type 0 where
@@ -66,7 +67,7 @@ pub record Held (L : ℕ → Item) (kind p l : ℕ) : Type 0 where
 
 -- each field is within its bytes, so it is read as it was written
 pub record-fields : (c : HonestSetup) → InRange c → (L : ℕ → Item) (kind p l : ℕ) → kind ≤ 8 → p ≤ 1048576 → l ≤ lg p → ItemOk c L (p - 1)
-    → requestBodyFits kind (length (bodyOf L kind p l)) ≡ true → Held L kind p l
+    → requestBodyFits (signatureAt c L (p - 1)) kind (length (bodyOf L kind p l)) ≡ true → Held L kind p l
 unfolding isStored
 record-fields c range L kind p l k high level item size =
     let a = L (p - 1) .author in
@@ -77,7 +78,7 @@ record-fields c range L kind p l k high level item size =
     let hp : p < 4294967296 = omega arith in
     let hl : l < 256 = let t = lg-below p 20 (omega arith) in omega arith in
     let ha : a < 65536 = let t = item .listed in let u = range .sixty-four in omega arith in
-    let hb : length b < 65536 = let t = body-small kind (length b) size in omega arith in
+    let hb : length b < 65536 = let t = body-small _ kind (length b) (signature-most (publicTo c (c .count)) a) size in omega arith in
     record {
       kind-is = ap (λ (x : List ℕ). recordKind x) laid ∙ record-kind kind p l a b [] hk hp hl ha hb;
       position-is = ap (λ (x : List ℕ). recordPosition x) laid ∙ record-position kind p l a b [] hk hp hl ha hb;

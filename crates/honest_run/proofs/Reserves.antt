@@ -14,7 +14,6 @@ use Rattle.tree.specs.Level.{lg}
 use Rattle.tree.specs.Label.{nodesTo, label, owner}
 use Rattle.tree.specs.Cover.{piece}
 use Rattle.tree.specs.Message.{requestBody, answer}
-use Rattle.user_list.specs.Users.{userCount}
 use Rattle.tree.proofs.Cases.{cases-le, cases-eq, by-eqb}
 use Rattle.tree.proofs.Levels.{lg-below}
 use Rattle.tree.proofs.Pieces.{piece-whole}
@@ -31,7 +30,7 @@ use Rattle.server.proofs.Theorems.{store-changes-only-by-puts}
 use Rattle.user.specs.Asking.{asks}
 use Rattle.honest_run.specs.Network.{HonestSetup, InRange, publicTo, settingsIn, answerBytes}
 use Rattle.whole_run.specs.Runs.{Server, serverAfter}
-use Rattle.honest_run.proofs.Invariant.{Item, digestOf, recordOf, has, reached, ownerOf, EarlierOk, ServerOk, ItemOk}
+use Rattle.honest_run.proofs.Invariant.{Item, digestOf, recordOf, has, reached, ownerOf, EarlierOk, ServerOk, signatureAt, ItemOk}
 use Rattle.honest_run.proofs.Log.{digest-size}
 use Rattle.honest_run.proofs.Heads.{owner-label, above-own, taken, passed, label-is, label-le, position-gt}
 use Rattle.honest_run.proofs.Keys.{user-count}
@@ -60,7 +59,7 @@ module _ (c : HonestSetup) (range : InRange c) (L : ℕ → Item) (w s : ℕ) (w
       (let t = lg-below (suc w) 20 (omega arith) in omega arith)
 
   -- checks 1 to 3 pass
-  pub digest-early : kind < 256 → nodeFits kind (suc w) j ≡ true → requestBodyFits kind 32 ≡ true → Early (settingsIn c s) digestRequest
+  pub digest-early : kind < 256 → nodeFits kind (suc w) j ≡ true → requestBodyFits (signatureAt c L w) kind 32 ≡ true → Early (settingsIn c s) digestRequest
   digest-early small node size =
       early-asked c (user-count c range) (L w .author) kind (suc w) j s (digestOf L (suc w)) digestRequest (digest-fields small) (item .one) (item .listed)
       node (rw (digest-size L (suc w)) size) (λ _. own)
@@ -81,7 +80,7 @@ module _ (c : HonestSetup) (range : InRange c) (L : ℕ → Item) (w g s : ℕ) 
       let up =
       above-own (c .servers) s (reached w g) (label (x .head .position) (x .head .level)) (label (suc w) l) some-servers last (ok .head)
       (sym (owner-label (c .servers) (suc w) l some-servers) ∙ o) (omega arith) low in
-      let far = position-gt (x .head .position) (x .head .level) w (head-level (userCount (publicTo c (c .count))) (x .head) (ok .ready .head)) (omega arith) in
+      let far = position-gt (x .head .position) (x .head .level) w (head-level (publicTo c (c .count)) (x .head) (ok .ready .head)) (omega arith) in
       let there : x .head .position ≡ suc w = let t = head-top c L w g s x ok in omega arith in
       let same : label (x .head .position) (x .head .level) ≡ label (suc w) (x .head .level) = ap (λ (p : ℕ). label p (x .head .level)) there in
       (there, let f = label-is w (x .head .level) in omega arith)

@@ -11,9 +11,10 @@ use Rattle.tree.specs.Level.{lg, isFull, highestFull}
 use Rattle.tree.specs.Label.{owner}
 use Rattle.tree.proofs.Cases.{cases-eq}
 use Rattle.tree.proofs.Levels.{full-iff}
+use Rattle.user_list.proofs.Lists.{one-length}
 use Rattle.store.specs.Shape.{levelFits, nodeFits}
 use Rattle.user_write.specs.Write.{commitNumber, writeKind, writeLevel}
-use Rattle.honest_run.specs.Network.{HonestSetup}
+use Rattle.honest_run.specs.Network.{HonestSetup, publicTo}
 use Rattle.whole_run.specs.Runs.{Server}
 use Rattle.honest_run.specs.Claim.{bodySize, storedTo}
 use Rattle.honest_run.proofs.Invariant.{Item, digestOf, bodyOf, PutKind, numberOf, RoomLeft, SignedOk, bodyAt}
@@ -99,7 +100,7 @@ module _ (c : HonestSetup) (L : ℕ → Item) (w j : ℕ) (within : w < 1048576)
         commit = λ _. e;
         body-is = rw (a, b, d) (ap (λ (i : ℕ). digestOf L (suc w) ++ L i .signature) (sym place));
         size-is = λ signed. rw (b, d, place)
-            (length-append (digestOf L (suc w)) (L w .signature) ∙ omega (arith, digest-size L (suc w), signed e .size));
+            (length-append (digestOf L (suc w)) (L w .signature) ∙ omega (arith, digest-size L (suc w), signed e .size, one-length (publicTo c (c .count)) (L w .author)));
       }
 
   -- a request behind the Reserves is one of these

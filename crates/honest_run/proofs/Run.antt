@@ -27,7 +27,7 @@ unfolding wrote returned
 wrote-nothing a i z e = rw e
 
 -- a give-up writes nothing
-given-up-writes : (log : List Written) (a : ℕ) (m : Lent) (z : Step) → log ++ wrote a (startGiveUp m) z ≡ log
+pub given-up-writes : (log : List Written) (a : ℕ) (m : Lent) (z : Step) → log ++ wrote a (startGiveUp m) z ≡ log
 unfolding wrote entriesOf
 given-up-writes log a m z =
     ap (λ (y : List Written). log ++ y) (by-bool (λ t. cond {A = List Written} t [] [] ≡ []) (returned z) (λ _. refl) (λ _. refl)) ∙ append-nil log

@@ -1,7 +1,7 @@
 -- The premises of the honest run can be met: the first Write of user 1 on two servers, of a firing schedule, is valid, and so ends with 0
 -- after five answers; and it is valid still after an Update that was refused.
 use mathlib.Core.Path.{_≡_, refl, ap, sym, _∙_, subst}
-use mathlib.Core.Logic.{inl, inr}
+use mathlib.Core.Logic.{inr}
 use mathlib.Core.Bool.{true, false, cond, _&&_}
 use mathlib.Core.List.{List, [], _∷_}
 use Prim.Native.Nat.{ℕ, zero, suc, _+_, _*_, _≤_, _<_}
@@ -25,12 +25,12 @@ use Rattle.user_update.specs.declared.call.Update.{Update}
 use Rattle.user_update.specs.Update.{updateAnswers, updateSetup, updateStarted}
 use Rattle.user_write.specs.Write.{targetFits, commitNumber, writeLevel, writeAnswers}
 use Rattle.user_calls.specs.Calls.{Input, startUpdate, startWrite, stepped}
-use Rattle.whole_run.specs.World.{User, userStep}
+use Rattle.whole_run.specs.World.{userStep}
 use Rattle.whole_run.specs.Runs.{newUser, NewWorld, newServer}
 use Rattle.honest_run.specs.Network.{InRange, generatedKey, settingsIn, steps, networkAfter, handed, calls, doAct, newNetwork, Run, runOf, Network, inRecords}
 use Rattle.honest_run.specs.Claim.{Alone, bodySize, storedTo, NewWrite, ValidInput, ValidCall, answersOf, countOf, Refused, AllValid, NotRefused, Reaches, Serves, CallsServe, HonestRun}
 use Rattle.honest_run.specs.Sample.{small}
-use Rattle.honest_run.proofs.Refused.{log-same, users-same}
+use Rattle.honest_run.proofs.Refused.{log-same, refused-unmoved}
 use Rattle.honest_run.proofs.Theorem.{honest-run}
 use Rattle.honest_run.proofs.Frames.{runFrom}
 
@@ -160,14 +160,18 @@ early-refused = too-short (settingsIn small 1) (start .network .users 1 .state) 
 abbrev later : Run Network
 later = runFrom small zeros-first (calls 1 early 0 false ∷ [])
 
--- every user is new still
-user-new : (a : ℕ) → later .network .users a ≡ start .network .users a
-unfolding runOf doAct networkAfter handed
-user-new a = users-same small (start .network) 1 early early-refused a
+refused-early : Refused small start (calls 1 early 0 false)
+unfolding Refused
+refused-early = (refl, early-refused, λ j h. absurd (omega arith))
+
+-- every user keeps still what a new one keeps
+state-new : (a : ℕ) → later .network .users a .state ≡ start .network .users a .state
+unfolding runOf
+state-new a = refused-unmoved small range start 1 early 0 false refused-early .states a
 
 shut : (a : ℕ) → later .network .users a .state .kept .opened ≡ false
 unfolding runOf newNetwork newUser
-shut a = ap (λ (u : User). u .state .kept .opened) (user-new a)
+shut a = ap (λ (σ : State). σ .kept .opened) (state-new a)
 
 new-later : NewWrite small later (later .network .users 1 .state .kept) entry
 unfolding runOf doAct networkAfter steps
@@ -176,7 +180,7 @@ new-later =
     (λ log. NewWrite small (record { network = later .network; log = log; begun = later .begun }) (later .network .users 1 .state .kept) entry)
     (sym (log-same start 1 early (handed (inRecords small) (start .network) 1 early 0) early-refused))
     (record {
-      number = subst (λ (u : User). u .state .kept .number < 1024) (sym (user-new 1)) (new .number);
+      number = subst (λ (σ : State). σ .kept .number < 1024) (sym (state-new 1)) (new .number);
       position = new .position;
       target = new .target;
       room = new .room;
@@ -202,7 +206,7 @@ valid-later =
     }
 
 pub write-after-refusal : (handed (inRecords small) (start .network) 1 early 0 .code ≡ 0 → ⊥) × NotRefused (countOf small later 1 first) (handed (inRecords small) (later .network) 1 first)
-unfolding HonestRun CallsServe AllValid Refused
+unfolding HonestRun CallsServe AllValid
 write-after-refusal =
-    let all : AllValid small (runFrom small zeros-first) (calls 1 early 0 false ∷ []) = (inr (refl, inl (refl, early-refused)), tt) in
+    let all : AllValid small (runFrom small zeros-first) (calls 1 early 0 false ∷ []) = (inr refused-early, tt) in
     (early-refused, honest-run small range zeros-first (calls 1 early 0 false ∷ []) all 1 first valid-later .0)

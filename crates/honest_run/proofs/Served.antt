@@ -10,7 +10,7 @@ use Rattle.sha256.proofs.Laws.{eqs-refl}
 use Rattle.tree.specs.Label.{owner}
 use Rattle.tree.specs.Message.{markOf, begins, request, requestHeader, requestKind, requestLog, requestAuthor, requestPosition, requestLevel, requestBody, answer}
 use Rattle.tree.specs.Setup.{firstCode, inLog}
-use Rattle.user_list.specs.Users.{userCount, isListed}
+use Rattle.user_list.specs.Users.{userCount, isListed, signatureLength}
 use Rattle.tree.proofs.Cases.{cases-eq, and-true}
 use Rattle.tree.proofs.Messages.{request-header-length, request-begins, request-kind, request-log, request-author, request-position, request-level, request-body}
 use Rattle.server.specs.declared.Head.{Head}
@@ -33,18 +33,18 @@ pub server-is : (x : Server) (h : Head) (store : List ℕ) (used : ℕ) → h �
 server-is x h store used a b d = rw (a, b, d)
 
 -- a place that 22 lets pass, as a head or an earlier one
-place-in-log : (count p l author : ℕ) → placeFits count p l author ≡ true → (p ≡ 0 → l ≡ 0) × (0 < p → inLog p l ≡ true)
+place-in-log : (users : List ℕ) (p l author : ℕ) → placeFits users p l author ≡ true → (p ≡ 0 → l ≡ 0) × (0 < p → inLog p l ≡ true)
 unfolding placeFits
-place-in-log count p l author e = (
+place-in-log users p l author e = (
   λ z. eqb-true l 0 (rw (eq-eqb p 0 z) at e),
   λ z. and-true (inLog p l) _ (rw (ne-eqb p 0 (λ q. omega arith)) at e) .0,
 )
 
 -- a head that 22 lets pass
-pub head-in-log : (count : ℕ) (h : Head) → headFits count h ≡ true
+pub head-in-log : (users : List ℕ) (h : Head) → headFits users h ≡ true
     → (h .position ≡ 0 → h .level ≡ 0) × (0 < h .position → inLog (h .position) (h .level) ≡ true)
 unfolding headFits
-head-in-log count h e = place-in-log count (h .position) (h .level) (h .author) (and-true (placeFits count (h .position) (h .level) (h .author)) _ e .0)
+head-in-log users h e = place-in-log users (h .position) (h .level) (h .author) (and-true (placeFits users (h .position) (h .level) (h .author)) _ e .0)
 
 -- The fields of a request, and its length.
 pub record Asked (c : HonestSetup) (a kind p l : ℕ) (body q : List ℕ) : Type 0 where
@@ -83,9 +83,9 @@ asked-fields c range a want body hk ha hp hl =
 
 -- the first three checks pass for a node of a kind that its owner is asked for
 pub early-asked : (c : HonestSetup) → userCount (publicTo c (c .count)) ≡ c .count → (a kind p l s : ℕ) (body q : List ℕ) → Asked c a kind p l body q
-    → 1 ≤ a → a ≤ c .count → nodeFits kind p l ≡ true → requestBodyFits kind (length body) ≡ true → ((kind ≡ 1 → ⊥) → owner (c .servers) p l ≡ s)
+    → 1 ≤ a → a ≤ c .count → nodeFits kind p l ≡ true → requestBodyFits (signatureLength (publicTo c (c .count)) a) kind (length body) ≡ true → ((kind ≡ 1 → ⊥) → owner (c .servers) p l ≡ s)
     → Early (settingsIn c s) q
-unfolding requestFits kindFits listed ownsNode
+unfolding requestFits kindFits isListed ownsNode
 early-asked c counted a kind p l s body q f one last node size own =
     let z : length q - 26 ≡ length body = omega (arith, f .long) in
     let owned : ownsNode (c .servers) s q ≡ true =

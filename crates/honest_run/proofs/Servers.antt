@@ -7,7 +7,6 @@ use native.Mathlib.Omega.{arith}
 use Rattle.tree.specs.Label.{nodesTo, label}
 use Rattle.tree.specs.Expr.{entryText}
 use Rattle.tree.specs.Message.{stored}
-use Rattle.user_list.specs.Users.{userCount}
 use Rattle.tree.proofs.Cases.{by-bool, cases-eq}
 use Rattle.server.specs.declared.Earlier.{Earlier}
 use Rattle.store.specs.Shape.{nodeFits}
@@ -41,7 +40,7 @@ pub head-below : (c : HonestSetup) (L : ℕ → Item) (w g s : ℕ) (x : Server)
     → HeadAt (c .servers) s (nodesTo w) (label (x .head .position) (x .head .level))
 head-below c L w g s x ok n =
     let top = head-top c L w g s x ok in
-    let level = head-level (userCount (publicTo c (c .count))) (x .head) (ok .ready .head) in
+    let level = head-level (publicTo c (c .count)) (x .head) (ok .ready .head) in
     lowered (c .servers) s (reached w g) (nodesTo w) (label (x .head .position) (x .head .level)) (reached-from w g)
     (label-within (x .head .position) (x .head .level) w level (omega (arith, n))) (ok .head)
 

@@ -14,6 +14,7 @@ use Rattle.lms.proofs.RoundTrip.{round-trip, set-fits, signature-length}
 use Rattle.tree.specs.Expr.{entryText}
 use Rattle.tree.specs.Message.{signedText}
 use Rattle.user_list.specs.Users.{userKey}
+use Rattle.user_list.proofs.Lists.{one-length}
 use Rattle.tree.proofs.Cases.{cases-eq, not-both}
 use Rattle.user.specs.declared.call.Kept.{Kept}
 use Rattle.user.specs.Outcome.{State}
@@ -100,7 +101,7 @@ module _ (c : HonestSetup) (r : InRange c) (L : ℕ → Item) (w g a : ℕ) (beg
   signature-ok : SignedOk c M w
   signature-ok =
       record {
-        size = ap (λ (x : Item). length (x .signature)) there ∙ signature-size;
+        size = ap (λ (x : Item). length (x .signature)) there ∙ signature-size ∙ sym (one-length _ _);
         valid =
             ap (λ (x : Item). validAt c w x (digestOf M (suc w))) there
             ∙ ap (validAt c w (signedItem (L w) sig))

@@ -33,7 +33,7 @@ use Rattle.server.proofs.After.{recordsOf, first-after-put}
 use Rattle.user.specs.Asking.{asks}
 use Rattle.honest_run.specs.Network.{HonestSetup, InRange, publicTo, settingsIn, answerBytes}
 use Rattle.whole_run.specs.Runs.{Server, serverAfter}
-use Rattle.honest_run.proofs.Invariant.{Item, digestOf, bodyOf, recordOf, PutKind, numberOf, has, reached, HeadAt, EarlierOk, ServerOk, SignedOk, ItemOk}
+use Rattle.honest_run.proofs.Invariant.{Item, digestOf, bodyOf, recordOf, PutKind, numberOf, has, reached, HeadAt, EarlierOk, ServerOk, signatureAt, SignedOk, ItemOk}
 use Rattle.honest_run.proofs.Log.{digest-size}
 use Rattle.honest_run.proofs.Keys.{user-count}
 use Rattle.honest_run.proofs.Served.{server-is, Asked, asked-fields, early-asked, left, held, kindCode, accepted, answered-with, left-head, left-store, left-used, ready-left}
@@ -100,8 +100,11 @@ module _ (c : HonestSetup) (range : InRange c) (L : ℕ → Item) (w g s : ℕ) 
   level = in-log (suc w) l (names-node kind (suc w) l (λ e. omega arith) node .0) .1 .1
 
   -- the body has its kind's size
-  size : requestBodyFits kind (length body) ≡ true
-  size = body-fits c L kind (suc w) l (put .0) (put .1) (rw place item) (λ e. rw place (signed e))
+  sized : requestBodyFits (signatureAt c L (suc w - 1)) kind (length body) ≡ true
+  sized = body-fits c L kind (suc w) l (put .0) (put .1) (rw place item) (λ e. rw place (signed e))
+
+  size : requestBodyFits (signatureAt c L w) kind (length body) ≡ true
+  size = subst (λ i. requestBodyFits (signatureAt c L i) kind (length body) ≡ true) place sized
 
   -- the fields of the request as the server reads them
   fields : Asked c author kind (suc w) l body request
@@ -112,7 +115,7 @@ module _ (c : HonestSetup) (range : InRange c) (L : ℕ → Item) (w g s : ℕ) 
 
   -- and those of its record
   reads : Held L kind (suc w) l
-  reads = record-fields c range L kind (suc w) l (put .1) (omega arith) level (rw place item) size
+  reads = record-fields c range L kind (suc w) l (put .1) (omega arith) level (rw place item) sized
 
   -- the record that it asks for is the log's
   record-asked : recordAsked request ≡ asked

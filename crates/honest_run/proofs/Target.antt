@@ -1,7 +1,7 @@
 -- A Write with nothing open whose arguments are valid but for its target or the log's limit: it takes the answers that an Update takes, and
 -- the last of them is refused by 20 or 19 (target).
 use mathlib.Core.Path.{_≡_, refl, ap, sym, _∙_, subst, ap₂}
-use mathlib.Core.Logic.{inl, inr}
+use mathlib.Core.Logic.{_⊎_, inl, inr, ⊎-elim}
 use mathlib.Core.Bool.{Bool, true, false, cond, _&&_}
 use mathlib.Core.List.{List}
 use Prim.Native.Nat.{ℕ, zero, suc, _-_, _≤_, _<_}
@@ -29,8 +29,8 @@ use Rattle.whole_run.specs.World.{Sent, User, returned, userStep, after}
 use Rattle.whole_run.specs.Runs.{NewWorld, Server, serverAfter, set}
 use Rattle.whole_run.proofs.Requests.{entry-sizes}
 use Rattle.whole_run.proofs.Refusals.{accepted-step}
-use Rattle.honest_run.specs.Network.{HonestSetup, InRange, generatedKey, settingsIn, Network, reply, answerBytes, arrives, steps, comesBack, networkAfter, handed, Act, Run, entriesOf, inRecords}
-use Rattle.honest_run.specs.Claim.{ValidMemory, ValidInput, ValidCall, answersOf, countOf, RefusedWrite, AllValid, NotRefused, Reaches, Serves, CallsServe, HonestRun}
+use Rattle.honest_run.specs.Network.{HonestSetup, InRange, generatedKey, settingsIn, Network, reply, answerBytes, arrives, steps, comesBack, networkAfter, handed, Act, calls, Run, inRecords}
+use Rattle.honest_run.specs.Claim.{ValidMemory, ValidInput, ValidCall, answersOf, countOf, OnlyPulls, Refused, AllValid, NotRefused, Reaches, Serves, CallsServe, HonestRun}
 use Rattle.honest_run.proofs.Frames.{set-same, memory-holds, runFrom}
 use Rattle.honest_run.proofs.Keys.{tree-size}
 use Rattle.honest_run.proofs.Opening.{write-starts, entry-held, write-waits, write-arrives, holding}
@@ -300,6 +300,7 @@ module _ (c : HonestSetup) (range : InRange c) (r : Run Network) (a : ℕ) (m : 
         servers = λ s. refl;
       }
 
+  -- until then the two go on alike
   alike : (k : ℕ) → k < n → Alike c a entry (networkAfter (inRecords c) x a j k) (networkAfter (inRecords c) x a i k)
   unfolding networkAfter handed
   alike zero h = first
@@ -307,6 +308,11 @@ module _ (c : HonestSetup) (range : InRange c) (r : Run Network) (a : ℕ) (m : 
       let z = goes-well (suc k) (omega arith) in
       exchanged-alike c a entry (networkAfter (inRecords c) x a j k) (networkAfter (inRecords c) x a i k) (alike k (omega arith)) (z .0)
       (z .1 ∙ ne-eqb (suc k) n (λ e. omega arith))
+
+  -- and the Write has handed out pulls alone
+  only-pulls : (k : ℕ) → k < n → OnlyPulls (networkAfter (inRecords c) x a (startWrite m entry randomizer) k .users a .call)
+  unfolding OnlyPulls
+  only-pulls k h = let o = alike k h .users in subst OnlyPulls (sym (o .writes)) (o .shut)
 
   -- the code of the answer that would be the Update's last
   last-answer : (k : ℕ) → n ≡ suc k
@@ -330,8 +336,11 @@ pub refused-write : (c : HonestSetup) → InRange c → (b : NewWorld) (xs : Lis
     → rulesKept entry ≡ true
     → runFrom c b xs .network .users a .state .kept .number < 1024
     → (length (runFrom c b xs .log) < 1048576 → targetFits (length (runFrom c b xs .log)) entry ≡ false)
-    → RefusedWrite c (runFrom c b xs) a (startWrite m entry randomizer) (countOf c (runFrom c b xs) a (startUpdate m))
-unfolding HonestRun CallsServe RefusedWrite entriesOf ValidInput openingChecks firstCode answersOf Serves
+    → let write = startWrite m entry randomizer in
+    let k = countOf c (runFrom c b xs) a (startUpdate m) in
+    let code = handed (inRecords c) (runFrom c b xs .network) a write k .code in
+    Refused c (runFrom c b xs) (calls a write k false) × ((code ≡ 20) ⊎ (code ≡ 19))
+unfolding HonestRun CallsServe Refused ValidInput openingChecks firstCode answersOf Serves
 refused-write c range b xs all a m entry randomizer valid key shaped ruled number bad =
     let r = runFrom c b xs in
     let memory = valid .input .0 in
@@ -339,10 +348,11 @@ refused-write c range b xs all a m entry randomizer valid key shaped ruled numbe
     let too : ValidCall c (runFrom c b xs) a (startUpdate (holding m entry)) =
     record { one = valid .one; listed = valid .listed; alone = valid .alone; input = (memory-holds m entry memory, shut) } in
     let h = honest-run c range b xs all a (startUpdate (holding m entry)) too in
-    let code = opening-code c range r a m entry randomizer memory shut key shaped ruled number (h .0) (h .1) in (
-      λ e. let z : _≡_ {A = ℕ} 1 0 = ap length e in omega arith,
-      write-accepted c range r a m entry randomizer memory shut key shaped ruled number (h .0) (h .1),
-      shut,
-      cases-le 1048576 (length (r .log)) (λ l. inl (code ∙ rw (le-ltb (length (r .log)) 1048576 l)))
-          (λ l. inr (code ∙ rw (lt-ltb (length (r .log)) 1048576 l, bad l))),
-    )
+    let is = opening-code c range r a m entry randomizer memory shut key shaped ruled number (h .0) (h .1) in
+    let code = handed (inRecords c) (r .network) a (startWrite m entry randomizer) (countOf c r a (startUpdate m)) .code in
+    let by : (code ≡ 20) ⊎ (code ≡ 19) =
+    cases-le 1048576 (length (r .log)) (λ l. inl (is ∙ rw (le-ltb (length (r .log)) 1048576 l)))
+    (λ l. inr (is ∙ rw (lt-ltb (length (r .log)) 1048576 l, bad l))) in
+    let start = write-accepted c range r a m entry randomizer memory shut key shaped ruled number (h .0) (h .1) in
+    let pulls = only-pulls c range r a m entry randomizer memory shut key shaped ruled number (h .0) (h .1) in
+    ((refl, λ z. ⊎-elim (λ e. omega arith) (λ e. omega arith) by, λ j few. (start, pulls j few)), by)

@@ -27,7 +27,7 @@ use Rattle.honest_run.proofs.Calls.{Updates, begunBy, OnWay}
 use Rattle.honest_run.proofs.Starts.{fit-user}
 
 -- what may be asked is asked of one of the servers
-can-server : (c : HonestSetup) → InRange c → (w : ℕ) (want : Want) → CanAsk c w want → (1 ≤ want .server) × (want .server ≤ c .servers)
+pub can-server : (c : HonestSetup) → InRange c → (w : ℕ) (want : Want) → CanAsk c w want → (1 ≤ want .server) × (want .server ≤ c .servers)
 can-server c range w want can =
     cases-eq (want .kind) 1
     (λ e. let s = can .status e in (s .2, s .3))

@@ -4,7 +4,7 @@ use mathlib.Core.Bool.{true, false, cond, not}
 use mathlib.Core.List.{List, [], _++_, append-nil, append-assoc}
 use Prim.Native.Nat.{ℕ, suc, _+_, _-_, _*_, _≤_, _<_}
 use native.Mathlib.Omega.{arith}
-use lib.Dec.{ltb}
+use lib.Dec.{eqb, ltb}
 use lib.ListN.{length, getD}
 use borrow.Author.Tests.{eq-eqb, ne-eqb, le-leb, lt-ltb, le-ltb}
 use Rattle.sha256.specs.Bytes.{be}
@@ -17,8 +17,8 @@ use Rattle.tree.proofs.Cases.{by-bool, cases-le, cases-eq, positive}
 use Rattle.tree.proofs.Counts.{cover-at-most-39}
 use Rattle.user_list.proofs.Lists.{Group}
 use Rattle.user.specs.declared.call.Kept.{Kept}
-use Rattle.user.specs.Asking.{userSettingsFit, keptFits, userFits, userSetupChecks, requestRoom, isAnswer, ofNode, ofStatus}
-use Rattle.user.specs.Outcome.{State, Lent, withHashes}
+use Rattle.user.specs.Asking.{userSettingsFit, keptFits, userFits, userSetupChecks, requestRoom, isAnswer, answerChecks, ofNode, ofStatus}
+use Rattle.user.specs.Outcome.{State, Lent, withHashes, refusal}
 use Rattle.user_update.specs.declared.call.Update.{Update}
 use Rattle.user_update.specs.Update.{updateEnded, updateWant, updateNext, updateHashes, updateChecks, statusTaken, updateGoes, freshUpdate, updateStarted, updateSetup, updateEarly, updateTaken}
 use Rattle.user_update.proofs.UpdateRules.{next-answers, later-position}
@@ -68,14 +68,53 @@ module _ (s : Settings) (σ : State) (m : Lent) (u : Update) (a body : List ℕ)
       let going : not (updateEnded (s .servers) (σ .kept .version) u) ≡ true = rw waits in
       rw append-assoc (setup-passes s (σ .kept) (m .request) _ settings-fit kept-fit shut room ∙ answer-passes _ _ a cs going shape code)
 
-  abbrev collected : List ℕ
-  collected = updateHashes (s .servers) u body (m .hashes)
-
   -- where the contents pass too, the Update goes on
-  taken-passed : firstCode (updateChecks s (σ .kept) u (updateNext (s .servers) u body) collected body) ≡ 0
-      → updateTaken s σ m u a ≡ updateGoes s σ (withHashes m collected) (updateNext (s .servers) u body)
+  pub taken-passed : firstCode (updateChecks s (σ .kept) u (updateNext (s .servers) u body) (updateHashes (s .servers) u body (m .hashes)) body) ≡ 0
+      → updateTaken s σ m u a ≡ updateGoes s σ (withHashes m (updateHashes (s .servers) u body (m .hashes))) (updateNext (s .servers) u body)
   unfolding updateTaken
   taken-passed e = rw (is, early-passed, e)
+
+-- one with another code of a server's is refused by 11
+pub server-refuses : (s : Settings) (σ : State) (m : Lent) (u : Update) (a : List ℕ) (code : ℕ) → userSettingsFit s ≡ true
+    → keptFits (s .servers) (σ .kept) ≡ true → σ .kept .opened ≡ false → 2566 ≤ length (m .request) → updateEnded (s .servers) (σ .kept .version) u ≡ false
+    → isAnswer (updateWant (s .servers) (σ .kept .version) u) a ≡ true → answerCode a ≡ code → (code ≡ 0 → ⊥) → updateTaken s σ m u a ≡ refusal 11 a σ m u
+unfolding updateTaken updateEarly answerChecks firstCode
+server-refuses s σ m u a code settings-fit kept-fit shut room waits shape is n =
+    let going : not (updateEnded (s .servers) (σ .kept .version) u) ≡ true = rw waits in
+    let other : eqb (answerCode a) 0 ≡ false = ne-eqb (answerCode a) 0 (λ z. n (sym is ∙ z)) in
+    let cs = answerChecks (not (updateEnded (s .servers) (σ .kept .version) u)) (updateWant (s .servers) (σ .kept .version) u) a in
+    let early : (rest : List Check) → firstCode ((updateSetup s (σ .kept) (m .request) ++ cs) ++ rest) ≡ 11 =
+    λ rest. rw append-assoc (setup-passes s (σ .kept) (m .request) _ settings-fit kept-fit shut room ∙ rw (going, shape, other)) in
+    rw early
+
+-- a Status that tells a head, where the labels of w positions are reserved, as in the log or by an open write's Reserves
+module _ (c : HonestSetup) (L : ℕ → Item) (w a : ℕ) (k : Kept) (u : Update) (hashes body : List ℕ) (two : 2 ≤ c .servers) (low : k .version ≤ w)
+    (within : w ≤ 1048576) (ok : UpdateOk (c .servers) (k .version) w L u hashes) (early : u .answers < c .servers)
+    (told : ToldOk c w 0 (u .answers + 1) body) where
+  -- the Update after it
+  pub status-next : UpdateOk (c .servers) (k .version) w L (updateNext (c .servers) u body) (updateHashes (c .servers) u body hashes)
+  status-next =
+      let n = c .servers in
+      let t = head-told c w (u .answers + 1) body within told in
+      subst (λ x. UpdateOk n (k .version) w L x (updateHashes n u body hashes)) (next-status n u body _ early refl)
+      (subst (UpdateOk n (k .version) w L (statusTaken u body)) (no-hash n u body hashes (omega arith))
+      (status-ok n (k .version) w L u hashes body ok early t (omega arith)))
+
+  -- 10, 12 and 13 pass
+  pub status-passes : 0 ≡ firstCode (updateChecks (settingsIn c a) k u (updateNext (c .servers) u body) (updateHashes (c .servers) u body hashes) body)
+  status-passes =
+      let n = c .servers in
+      let next = updateNext n u body in
+      let q = next-answers n u body in
+      let t = head-told c w (u .answers + 1) body within told in
+      contents-status (settingsIn c a) k u next (updateHashes n u body hashes) body 0 early (head-holds n w (u .answers + 1) body (omega arith) t)
+      (cases-eq (next .answers) n
+      (λ e.
+      let g = status-next .greatest-low (omega arith) in
+      let l = status-next .least-near (omega arith) (omega arith) in
+      let p = status-next .position-later (omega arith) in
+      heads-last n (k .version) next 0 e (rw (lt-ltb (next .greatest - next .least) n (omega arith), le-leb (k .version) (next .position) (omega arith))))
+      (λ e. heads-later n (k .version) next e))
 
 module _ (c : HonestSetup) (L : ℕ → Item) (w a : ℕ) (σ : State) (m : Lent) (u : Update) (body : List ℕ) (fit : Fit c L w a (σ .kept))
     (ok : UpdateOk (c .servers) (σ .kept .version) w L u (m .hashes)) (size : length (m .hashes) ≡ 1248)
@@ -132,12 +171,8 @@ module _ (c : HonestSetup) (L : ℕ → Item) (w a : ℕ) (σ : State) (m : Lent
   place-fits h = let x = place-in h in omega (arith, cover-at-most-39 v w (fit .low) (fit .within))
 
   -- the Update after a Status
-  status-next : u .answers < n → UpdateOk n v w L next over
-  status-next h =
-      let two = group .two in
-      let t = head-told c w (u .answers + 1) body (fit .within) (status-body h) in
-      subst (λ x. UpdateOk n v w L x over) (next-status n u body _ h refl)
-      (subst (UpdateOk n v w L (statusTaken u body)) (no-hash n u body hashes (omega arith)) (status-ok n v w L u hashes body ok h t (omega arith)))
+  after-status : u .answers < n → UpdateOk n v w L next over
+  after-status h = status-next c L w a k u hashes body (group .two) (fit .low) (fit .within) ok h (status-body h)
 
   -- from the Record on the digest is that of w
   next-digest : n ≤ u .answers → next .digest ≡ digestOf L w
@@ -176,23 +211,11 @@ module _ (c : HonestSetup) (L : ℕ → Item) (w a : ℕ) (σ : State) (m : Lent
 
   -- and so after every answer
   next-ok : UpdateOk n v w L next over
-  next-ok = cases-le n (u .answers) later-next status-next
+  next-ok = cases-le n (u .answers) later-next after-status
 
   -- the contents pass: 10, 12 and 13
-  status-passes : u .answers < n → 0 ≡ firstCode (updateChecks (settingsIn c a) k u next over body)
-  status-passes h =
-      let two = group .two in
-      let q = next-answers n u body in
-      let t = head-told c w (u .answers + 1) body (fit .within) (status-body h) in
-      contents-status (settingsIn c a) k u next over body 0 h (head-holds n w (u .answers + 1) body (omega arith) t)
-      (cases-eq (next .answers) n
-      (λ e.
-      let g = next-ok .greatest-low (omega arith) in
-      let l = next-ok .least-near (omega arith) (omega arith) in
-      let p = next-ok .position-later (omega arith) in
-      let low = fit .low in
-      heads-last n v next 0 e (rw (lt-ltb (next .greatest - next .least) n (omega arith), le-leb v (next .position) (omega arith))))
-      (λ e. heads-later n v next e))
+  heads-pass : u .answers < n → 0 ≡ firstCode (updateChecks (settingsIn c a) k u next over body)
+  heads-pass h = status-passes c L w a k u hashes body (group .two) (fit .low) (fit .within) ok h (status-body h)
 
   -- 14
   record-passes : u .answers ≡ n → 0 ≡ firstCode (updateChecks (settingsIn c a) k u next over body)
@@ -224,7 +247,7 @@ module _ (c : HonestSetup) (L : ℕ → Item) (w a : ℕ) (σ : State) (m : Lent
   -- every check of the contents passes
   passes : firstCode (updateChecks (settingsIn c a) k u next over body) ≡ 0
   passes =
-      sym (cases-le n (u .answers) (λ h. cases-eq (u .answers) n record-passes (λ e. hash-passes (omega (arith, e)))) status-passes)
+      sym (cases-le n (u .answers) (λ h. cases-eq (u .answers) n record-passes (λ e. hash-passes (omega (arith, e)))) heads-pass)
 
   -- a right answer is taken, and the Update goes on
   pub update-right : k .opened ≡ false → 2566 ≤ length (m .request)

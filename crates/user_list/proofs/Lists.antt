@@ -1,5 +1,5 @@
 -- What holds of the user list.
-use mathlib.Core.Path.{_≡_, sym}
+use mathlib.Core.Path.{_≡_, refl, sym}
 use mathlib.Core.Bool.{true}
 use mathlib.Core.List.{List}
 use Prim.Native.Nat.{ℕ, _-_, _*_, _/_, _%_, _≤_}
@@ -45,7 +45,11 @@ listed-by-length n a =
     (λ h. sym (le-leb a (n / 56) (omega arith)))
     (λ h. sym (lt-leb a (n / 56) (omega arith)))
 
--- no signature is longer
+-- every key is of one type, so all signatures are of one length; none is longer
+pub one-length : (users : List ℕ) (a : ℕ) → signatureLength users a ≡ longestSignature
+unfolding signatureLength signatureSize
+one-length users a = refl
+
 pub signature-most : (users : List ℕ) (a : ℕ) → signatureLength users a ≤ longestSignature
 unfolding signatureLength signatureSize
 signature-most users a = omega arith
