@@ -36,7 +36,8 @@ module _ (s : Settings) (m : UserLent) (key : Key) where
   answer-leaves a n =
       let o : Outcome Call = stepped s (stateIn m) (lentIn m key) (callOf (m .call)) (answer a) in
       let e = step-refusal s (stateIn m) (lentIn m key) (callOf (m .call)) (answer a) n in
-      left-alone (keptBy (o .call) (o .step .code) (o .state .kept) (m .kept)) o n (kept-stays (o .call) _ _ _ n) (ap (λ (x : Outcome Call). x .state) e)
+      left-alone (keptBy (o .call) (o .step .code) (o .state .kept) (m .kept)) o n (kept-stays (o .call) _ _ _ n)
+      (ap (λ (x : Outcome Call). x .state) e)
       (ap (λ (x : Outcome Call). x .lent) e)
 
   -- a start with the memory that is lent
@@ -48,7 +49,8 @@ module _ (s : Settings) (m : UserLent) (key : Key) where
       let i : Input = start (lentIn m key) in
       let o : Outcome Call = stepped s (stateIn m) (lentIn m key) (callOf (m .call)) i in
       let e = step-refusal s (stateIn m) (lentIn m key) (callOf (m .call)) i n in
-      left-alone (m .kept) o n refl (ap (λ (x : Outcome Call). x .state) e ∙ refused-state (o .step .code) (stateIn m) (lentIn m key) (callOf (m .call)) i)
+      left-alone (m .kept) o n refl
+      (ap (λ (x : Outcome Call). x .state) e ∙ refused-state (o .step .code) (stateIn m) (lentIn m key) (callOf (m .call)) i)
       (ap (λ (x : Outcome Call). x .lent) e ∙ same (o .step .code))
 
 give-up-start-leaves : (s : Settings) (kept path call request : List ℕ)
@@ -69,7 +71,8 @@ refusal-leaves-all-bytes =
       update = λ s kept call request.
           start-leaves s (userLent kept [] [] call [] [] request []) (keyOf [] [] []) startUpdate (λ _. refl);
       write = λ s tree entry randomizer kept path call held request.
-          start-leaves s (userLent kept path [] call [] held request []) (keyOf [] [] tree) (λ l. startWrite l entry randomizer) (λ _. refl);
+          start-leaves s (userLent kept path [] call [] held request []) (keyOf [] [] tree) (λ l. startWrite l entry randomizer)
+          (λ _. refl);
       read = λ s i kept call request entry.
           start-leaves s (userLent kept [] [] call [] [] request entry) (keyOf [] [] []) (λ l. startRead l i) (λ _. refl);
       give-up = give-up-start-leaves;

@@ -6,4 +6,4 @@ pub mod Schedules
 pub mod Firings
 pub mod Starts
 pub mod WarmKilns
-pub mod Kept
+pub mod RulesKept

@@ -12,7 +12,7 @@ use Rattle.sha256.proofs.Cases.{by-bool, cases-lt}
 use Rattle.firing.specs.declared.segment.Segment.{Segment}
 use Rattle.firing.specs.Schedule.{change, sameSign, signFits, roundedUp, segmentMinutes, total}
 use Rattle.firing.specs.Warm.{combinedFrom, overStarts, startsFit}
-use Rattle.firing.specs.Claims.{RangeKept, RangesFit}
+use Rattle.firing.specs.Claims.{RangeKeepsRules, RangesFit}
 use Rattle.firing.proofs.Signed.{pos-minus}
 use Rattle.firing.proofs.Segments.{rounded-monotone, distance}
 use Rattle.firing.proofs.Firings.{change-signs, rate-signs}
@@ -150,7 +150,7 @@ module _ (s : Segment) (a b : ℕ) where
           (start-breaks b order (omega arith))
 
 -- A range of starts fits exactly if its ends are in order and in their range and the sign rule holds from every start in it.
-pub starts-fit : (s : Segment) (a b : ℕ) → startsFit s a b ≡ true → RangeKept s a b
+pub starts-fit : (s : Segment) (a b : ℕ) → startsFit s a b ≡ true → RangeKeepsRules s a b
 unfolding startsFit
 starts-fit s a b e =
     let order = and-eq-true-iff (leb a b) _ .0 e in
@@ -164,7 +164,7 @@ starts-fit s a b e =
       sign = each-start a b is (keeps-sign s a b) (upper .1);
     }
 
-pub fitting-starts : (s : Segment) (a b : ℕ) → RangeKept s a b → startsFit s a b ≡ true
+pub fitting-starts : (s : Segment) (a b : ℕ) → RangeKeepsRules s a b → startsFit s a b ≡ true
 fitting-starts s a b f = sign-decides s a b (f .order) (f .upper) ∙ all-starts a b (f .order) (keeps-sign s a b) (f .sign)
 
 pub ranges-fit : RangesFit

@@ -1,5 +1,5 @@
--- Shapes of entries, document 02's definitions of a firing schedule and of a kiln still warm, what is claimed of schedules, a word for other
--- laws of them, and computed examples.
+-- Shapes of entries, document 02's definitions of a firing schedule and of a kiln still warm, what is claimed of them, a word for other
+-- laws, and computed examples.
 pub mod Entry
 pub mod Schedule
 pub mod Warm

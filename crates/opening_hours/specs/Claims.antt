@@ -7,7 +7,7 @@ use Prim.Native.Nat.{ℕ, _<_}
 use Rattle.opening_hours.specs.Opening.{week, windowsFit, noStart, opening}
 use Rattle.opening_hours.specs.Starts.{Fitting, EarliestOpen, NoneOpen}
 
--- The test of contracts and definitions passes exactly the windows that fit, by their numbers.
+-- The test that 33 goes by passes exactly the windows that fit, by their numbers.
 unfoldable pub WindowsFit : Type 0
 WindowsFit = (windows : List ℕ) → (windowsFit windows ≡ true) ↔ Fitting windows
 

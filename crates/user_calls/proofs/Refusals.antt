@@ -8,13 +8,13 @@ use Rattle.tree.proofs.Cases.{by-bool}
 use Rattle.user.specs.Asking.{userSettingsFit, userFits, userSetupChecks, refused}
 use Rattle.user.specs.Outcome.{State, Lent, Outcome, refusal}
 use Rattle.user_update.specs.declared.call.Update.{Update}
-use Rattle.user_update.specs.Update.{noUpdate, updateSetup, updateEarly, updateStarted, updateTaken}
+use Rattle.user_update.specs.Update.{updateSetup, updateEarly, updateStarted, updateTaken}
 use Rattle.user_write.specs.declared.call.Write.{Write}
-use Rattle.user_write.specs.Write.{noWrite, writeStartChecks, writeChecks, writeWaits, writeStarted, writeUpdates, writeGoes, writeTaken}
+use Rattle.user_write.specs.Write.{writeStartChecks, writeChecks, writeWaits, writeStarted, writeUpdates, writeGoes, writeTaken}
 use Rattle.user_read.specs.declared.call.Read.{Read}
-use Rattle.user_read.specs.Read.{noRead, readChecks, readEarly, readStarted, readTaken}
+use Rattle.user_read.specs.Read.{readChecks, readEarly, readStarted, readTaken}
 use Rattle.user_give_up.specs.declared.call.GiveUp.{GiveUp}
-use Rattle.user_give_up.specs.GiveUp.{noGiveUp, giveUpSetup, giveUpChecks, giveUpStarted, giveUpTaken}
+use Rattle.user_give_up.specs.GiveUp.{giveUpSetup, giveUpChecks, giveUpStarted, giveUpTaken}
 use Rattle.user_update.proofs.UpdateAnswers.{update-start-refusal, update-refusal, no-update}
 use Rattle.user_write.proofs.WriteAnswers.{write-start-refusal, write-refusal, no-write}
 use Rattle.user_read.proofs.ReadAnswers.{read-start-refusal, read-refusal, no-read}

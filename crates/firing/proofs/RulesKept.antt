@@ -5,7 +5,7 @@ use mathlib.Core.Bool.{Bool, true, false, and-eq-true-iff, or-true}
 use mathlib.Core.List.{List, [], _∷_, _++_}
 use Prim.Native.Nat.{ℕ, zero, suc, _+_, _-_, _*_, _≤_, _<_}
 use native.Mathlib.Omega.{arith}
-use lib.Dec.{T, eqb, leb, ltb, ltb→lt, lt→ltb}
+use lib.Dec.{T, leb, ltb, ltb→lt, lt→ltb}
 use lib.IntN.{ℤ, pos, negsuc, natAbs}
 use lib.ListN.{length, drop, getD, length-append}
 use lib.Seq.{drop-drop, drop-at}
@@ -19,10 +19,10 @@ use Rattle.firing.specs.declared.segment.Segment.{Segment}
 use Rattle.firing.specs.Schedule.{twosComplement, segmentOf, segmentsIn, segmentCount, segments, laidOut, signFits, segmentFits}
 use Rattle.firing.specs.Schedule.{segmentsFit, start, scheduleFits, reportCode}
 use Rattle.firing.specs.Entry.{isSchedule}
-use Rattle.firing.specs.Claims.{SegmentKept, segmentAt, reachedAt, ScheduleKept, SchedulesFit, SchedulesReported}
-use Rattle.firing.specs.Claims.{rateBits, segmentsLaid, scheduleLaid, AllKept, NumbersFit}
+use Rattle.firing.specs.Claims.{SegmentKeepsRules, segmentAt, reachedAt, ScheduleKeepsRules, SchedulesFit, SchedulesReported}
+use Rattle.firing.specs.Claims.{rateBits, segmentsLaid, scheduleLaid, AllKeepRules, NumbersFit}
 use Rattle.firing.proofs.Signed.{lowered}
-use Rattle.firing.proofs.Segments.{KeepsRules, keeps-rules}
+use Rattle.firing.proofs.Segments.{keeps-rules}
 use Rattle.firing.proofs.Schedules.{layout, code-none}
 use Rattle.firing.proofs.Firings.{rate-signs}
 use Rattle.firing.proofs.Starts.{sign-tests}
@@ -41,7 +41,7 @@ none-is-zero (negsuc n) e = absurd (omega arith)
 
 -- a segment
 module _ (before : ℕ) (s : Segment) where
-  segment-kept : segmentFits before s ≡ true → SegmentKept before s
+  segment-kept : segmentFits before s ≡ true → SegmentKeepsRules before s
   unfolding segmentFits
   segment-kept e =
       let k = keeps-rules before s e in
@@ -60,7 +60,7 @@ module _ (before : ℕ) (s : Segment) where
       }
 
   -- the sign is judged by which of target and temperature is the greater
-  sign-kept : SegmentKept before s → signFits before s ≡ true
+  sign-kept : SegmentKeepsRules before s → signFits before s ≡ true
   sign-kept k =
       sign-tests before s
       ∙ cases-lt (s .target) before
@@ -73,7 +73,7 @@ module _ (before : ℕ) (s : Segment) where
       let none = ap natAbs (k .stays .1 same) in
       rw (eq-eqb (natAbs (s .rate)) 0 none, eq-eqb (s .target) before same) (simp or-true)))
 
-  kept-segment : SegmentKept before s → segmentFits before s ≡ true
+  kept-segment : SegmentKeepsRules before s → segmentFits before s ≡ true
   unfolding segmentFits
   kept-segment k =
       rw (
@@ -82,7 +82,7 @@ module _ (before : ℕ) (s : Segment) where
         le-leb (s .target) 1350 (k .most),
         le-leb (s .hold) 5999 (k .hold),
       )
-          (sign-kept k)
+      (sign-kept k)
 
 none-left : (before : ℕ) (s : List ℕ) → segmentsFit before (segmentsIn 0 s) ≡ true
 unfolding segmentsFit segmentsIn
@@ -109,14 +109,14 @@ module _ (entry : List ℕ) where
         and-eq-true-iff (segmentFits (reachedAt entry k) (segmentAt entry k)) _ .0 (rw (next left k) at here) .1
 
     each-kept : segmentsFit (reachedAt entry 0) (from count 0) ≡ true → (k : ℕ) → k < count
-        → SegmentKept (reachedAt entry k) (segmentAt entry k)
+        → SegmentKeepsRules (reachedAt entry k) (segmentAt entry k)
     unfolding segmentsFit
     each-kept e k h =
         let here = each-left e k (suc (count - suc k)) (omega arith) in
         segment-kept (reachedAt entry k) (segmentAt entry k)
         (and-eq-true-iff (segmentFits (reachedAt entry k) (segmentAt entry k)) _ .0 (rw (next (count - suc k) k) at here) .0)
 
-    all-fit : ((k : ℕ) → k < count → SegmentKept (reachedAt entry k) (segmentAt entry k)) → (left k : ℕ) → k + left ≡ count
+    all-fit : ((k : ℕ) → k < count → SegmentKeepsRules (reachedAt entry k) (segmentAt entry k)) → (left k : ℕ) → k + left ≡ count
         → segmentsFit (reachedAt entry k) (from left k) ≡ true
     unfolding segmentsFit
     all-fit each zero k h = none-left (reachedAt entry k) (drop (2 + 6 * k) entry)
@@ -125,9 +125,9 @@ module _ (entry : List ℕ) where
           next left k,
           kept-segment (reachedAt entry k) (segmentAt entry k) (each k (omega arith)),
         )
-            (all-fit each left (suc k) (omega arith))
+        (all-fit each left (suc k) (omega arith))
 
-schedule-kept : (entry : List ℕ) → scheduleFits entry ≡ true → ScheduleKept entry
+schedule-kept : (entry : List ℕ) → scheduleFits entry ≡ true → ScheduleKeepsRules entry
 unfolding scheduleFits segments segmentCount
 schedule-kept entry e =
     let both = and-eq-true-iff (laidOut entry) _ .0 e in
@@ -142,13 +142,19 @@ schedule-kept entry e =
       each = each-kept entry (getD entry 1 0) (both .1);
     }
 
-kept-laid : (entry : List ℕ) → ScheduleKept entry → laidOut entry ≡ true
+kept-laid : (entry : List ℕ) → ScheduleKeepsRules entry → laidOut entry ≡ true
 unfolding laidOut isSchedule segmentCount
 kept-laid entry k =
     let whole = k .whole in
-    rw (k .first, k .counted, le-leb 1 (k .count) (k .least), le-leb (k .count) 16 (k .most), eq-eqb (length entry) (2 + 6 * k .count) whole)
+    rw (
+      k .first,
+      k .counted,
+      le-leb 1 (k .count) (k .least),
+      le-leb (k .count) 16 (k .most),
+      eq-eqb (length entry) (2 + 6 * k .count) whole,
+    )
 
-kept-schedule : (entry : List ℕ) → ScheduleKept entry → scheduleFits entry ≡ true
+kept-schedule : (entry : List ℕ) → ScheduleKeepsRules entry → scheduleFits entry ≡ true
 unfolding scheduleFits segments segmentCount
 kept-schedule entry k = rw (kept-laid entry k, k .counted) (all-fit entry (k .count) (k .each) (k .count) 0 (omega arith))
 
@@ -158,9 +164,10 @@ schedules-fit entry = (schedule-kept entry, kept-schedule entry)
 
 pub schedules-reported : SchedulesReported
 unfolding SchedulesReported
-schedules-reported entry =
-    (λ z. schedule-kept entry (sym (code-none entry) ∙ eq-eqb (reportCode entry) 0 z),
-    λ k. eqb-true (reportCode entry) 0 (code-none entry ∙ kept-schedule entry k))
+schedules-reported entry = (
+  λ z. schedule-kept entry (sym (code-none entry) ∙ eq-eqb (reportCode entry) 0 z),
+  λ k. eqb-true (reportCode entry) 0 (code-none entry ∙ kept-schedule entry k),
+)
 
 -- the bytes of a rate, read
 bits-read : (z : ℤ) → natAbs z ≤ 600 → (rateBits z < 65536) × (twosComplement (rateBits z) ≡ z)
@@ -171,7 +178,7 @@ bits-read (negsuc n) h =
     (omega arith, rw (le-ltb (65535 - n) 32768 (omega arith)) (lowered (65535 - n) (omega arith) (omega arith) ∙ ap negsuc back))
 
 -- the bytes of a segment, read, and what stands behind them
-module _ (before : ℕ) (s : Segment) (k : SegmentKept before s) (behind : List ℕ) where
+module _ (before : ℕ) (s : Segment) (k : SegmentKeepsRules before s) (behind : List ℕ) where
   abbrev laid : List ℕ
   laid = be 2 (rateBits (s .rate)) ++ (be 2 (s .target) ++ (be 2 (s .hold) ++ behind))
 
@@ -203,8 +210,8 @@ module _ (before : ℕ) (s : Segment) (k : SegmentKept before s) (behind : List 
         number-there 4 (s .hold) behind from-hold (omega arith),
       )
 
-segments-read : (before : ℕ) (xs : List Segment) → AllKept before xs → segmentsIn (length xs) (segmentsLaid xs) ≡ xs
-unfolding AllKept segmentsIn segmentsLaid
+segments-read : (before : ℕ) (xs : List Segment) → AllKeepRules before xs → segmentsIn (length xs) (segmentsLaid xs) ≡ xs
+unfolding AllKeepRules segmentsIn segmentsLaid
 segments-read before [] k = refl
 segments-read before (x ∷ xs) k =
     rw (segment-read before x (k .0) (segmentsLaid xs), from-behind before x (k .0) (segmentsLaid xs), segments-read (x .target) xs (k .1))
@@ -216,8 +223,8 @@ segments-long (x ∷ xs) =
     simp length-append
     (omega (arith, be-length 2 (rateBits (x .rate)), be-length 2 (x .target), be-length 2 (x .hold), segments-long xs))
 
-all-kept-fit : (before : ℕ) (xs : List Segment) → AllKept before xs → segmentsFit before xs ≡ true
-unfolding AllKept segmentsFit
+all-kept-fit : (before : ℕ) (xs : List Segment) → AllKeepRules before xs → segmentsFit before xs ≡ true
+unfolding AllKeepRules segmentsFit
 all-kept-fit before [] k = refl
 all-kept-fit before (x ∷ xs) k = rw (kept-segment before x (k .0)) (all-kept-fit (x .target) xs (k .1))
 
@@ -226,6 +233,8 @@ unfolding NumbersFit scheduleLaid segments segmentCount scheduleFits laidOut isS
 numbers-fit xs least most k =
     let read = segments-read start xs k in
     let long : suc (suc (length (segmentsLaid xs))) ≡ 2 + 6 * length xs = omega (arith, segments-long xs) in
-    let whole = eq-eqb (suc (suc (length (segmentsLaid xs)))) (2 + 6 * length xs) long in
-    (schedule-kept (scheduleLaid xs)
-    (rw (le-leb 1 (length xs) least, le-leb (length xs) 16 most, whole, read, all-kept-fit start xs k)), read)
+    let whole = eq-eqb (suc (suc (length (segmentsLaid xs)))) (2 + 6 * length xs) long in (
+      schedule-kept (scheduleLaid xs)
+          (rw (le-leb 1 (length xs) least, le-leb (length xs) 16 most, whole, read, all-kept-fit start xs k)),
+      read,
+    )
