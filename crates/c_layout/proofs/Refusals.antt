@@ -65,15 +65,16 @@ give-up-start-leaves s kept path call request n =
     (sym (kept-left (o .step .code) (o .state .kept) kept n)) (ap (λ (x : Outcome Call). x .state) e) (ap (λ (x : Outcome Call). x .lent) e)
 
 pub refusal-leaves-all-bytes : RefusalLeavesAllBytes
-refusal-leaves-all-bytes =
+unfolding RefusalLeavesAllBytes
+refusal-leaves-all-bytes s =
     record {
-      answer = answer-leaves;
-      update = λ s kept call request.
+      answer = answer-leaves s;
+      update = λ kept call request.
           start-leaves s (userLent kept [] [] call [] [] request []) (keyOf [] [] []) startUpdate (λ _. refl);
-      write = λ s tree entry randomizer kept path call held request.
+      write = λ tree entry randomizer kept path call held request.
           start-leaves s (userLent kept path [] call [] held request []) (keyOf [] [] tree) (λ l. startWrite l entry randomizer)
           (λ _. refl);
-      read = λ s i kept call request entry.
+      read = λ i kept call request entry.
           start-leaves s (userLent kept [] [] call [] [] request entry) (keyOf [] [] []) (λ l. startRead l i) (λ _. refl);
-      give-up = give-up-start-leaves;
+      give-up = give-up-start-leaves s;
     }
