@@ -6,3 +6,4 @@ pub mod Schedules
 pub mod Firings
 pub mod Starts
 pub mod WarmKilns
+pub mod RulesKept

@@ -12,6 +12,7 @@ use Rattle.sha256.proofs.Cases.{by-bool, cases-lt}
 use Rattle.firing.specs.declared.segment.Segment.{Segment}
 use Rattle.firing.specs.Schedule.{change, sameSign, signFits, roundedUp, segmentMinutes, total}
 use Rattle.firing.specs.Warm.{combinedFrom, overStarts, startsFit}
+use Rattle.firing.specs.Claims.{RangeKeepsRules, RangesFit}
 use Rattle.firing.proofs.Signed.{pos-minus}
 use Rattle.firing.proofs.Segments.{rounded-monotone, distance}
 use Rattle.firing.proofs.Firings.{change-signs, rate-signs}
@@ -86,7 +87,7 @@ module _ (a b : ℕ) (order : a ≤ b) where
         r .1 .1 .1 ∙ h (r .0) (r .1 .0) (omega (arith, r .1 .1 .0))
 
 -- the sign rule by three tests of target and start
-sign-tests : (t : ℕ) (s : Segment) → signFits t s
+pub sign-tests : (t : ℕ) (s : Segment) → signFits t s
     ≡ (ltZ (s .rate) (pos 0) && ltb (s .target) t)
     || ((ltZ (pos 0) (s .rate) && ltb t (s .target)) || (eqb (natAbs (s .rate)) 0 && eqb (s .target) t))
 unfolding signFits sameSign change
@@ -149,13 +150,7 @@ module _ (s : Segment) (a b : ℕ) where
           (start-breaks b order (omega arith))
 
 -- A range of starts fits exactly if its ends are in order and in their range and the sign rule holds from every start in it.
-pub record Fitting (s : Segment) (a b : ℕ) : Type 0 where
-  pub order : a ≤ b
-  pub lower : a ≤ 1350
-  pub upper : b ≤ 1350
-  pub sign : (t : ℕ) → a ≤ t → t ≤ b → signFits t s ≡ true
-
-pub starts-fit : (s : Segment) (a b : ℕ) → startsFit s a b ≡ true → Fitting s a b
+pub starts-fit : (s : Segment) (a b : ℕ) → startsFit s a b ≡ true → RangeKeepsRules s a b
 unfolding startsFit
 starts-fit s a b e =
     let order = and-eq-true-iff (leb a b) _ .0 e in
@@ -169,8 +164,12 @@ starts-fit s a b e =
       sign = each-start a b is (keeps-sign s a b) (upper .1);
     }
 
-pub fitting-starts : (s : Segment) (a b : ℕ) → Fitting s a b → startsFit s a b ≡ true
+pub fitting-starts : (s : Segment) (a b : ℕ) → RangeKeepsRules s a b → startsFit s a b ≡ true
 fitting-starts s a b f = sign-decides s a b (f .order) (f .upper) ∙ all-starts a b (f .order) (keeps-sign s a b) (f .sign)
+
+pub ranges-fit : RangesFit
+unfolding RangesFit
+ranges-fit s a b = (starts-fit s a b, fitting-starts s a b)
 
 -- A segment's time does not fall with the distance.
 farther-longer : (s : Segment) (t u : ℕ) → natAbs (change t s) ≤ natAbs (change u s) → segmentMinutes t s ≤ segmentMinutes u s

@@ -9,6 +9,7 @@ use lib.ListN.{length, drop}
 use borrow.Author.Tests.{ltb-true, lt-ltb, leb-true}
 use Rattle.opening_hours.specs.Opening.{inOrder, windowsFit}
 use Rattle.opening_hours.specs.Starts.{Fitting}
+use Rattle.opening_hours.specs.Claims.{WindowsFit}
 use Rattle.opening_hours.proofs.InOrder.{first, end, WindowAt, window-at, order-goes-on, half-window, order-ended, all-in-order}
 use Rattle.opening_hours.proofs.InOrder.{in-order}
 
@@ -35,9 +36,9 @@ module _ (ws : List ℕ) where
       let next : 2 * k + 2 ≡ 2 * suc k = omega arith in
       window-at ws (2 * suc k) (end ws (2 * k)) (subst (λ (at : ℕ). inOrder (end ws (2 * k)) (drop at ws) ≡ true) next (w .rest)) h
 
-  pub windows-fit : windowsFit ws ≡ true → Fitting ws
+  fits : windowsFit ws ≡ true → Fitting ws
   unfolding windowsFit end-before
-  windows-fit e =
+  fits e =
       let in-order = in-order ws e in
       let pairs = even-count ws 0 in-order in
       let some = and-eq-true-iff (ltb 0 (length ws)) _ .0 e in
@@ -68,10 +69,14 @@ module _ (ws : List ℕ) where
         (f .within k (omega arith))
         ∙ rw next (in-order-from left (suc k) (omega arith))
 
-    pub fitting-windows : windowsFit ws ≡ true
+    fitting : windowsFit ws ≡ true
     unfolding end-before
-    fitting-windows =
+    fitting =
         let p = f .pairs in
         let least = f .least in
         let most = f .most in
         sym (all-in-order ws (omega arith) (in-order-from (f .count) 0 (omega arith))) ∙ lt-ltb 0 (length ws) (omega arith)
+
+pub windows-fit : WindowsFit
+unfolding WindowsFit
+windows-fit windows = (fits windows, fitting windows)

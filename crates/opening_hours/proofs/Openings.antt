@@ -21,7 +21,7 @@ at-start u = record { code = 0; start = u }
 
 module _ (ws : List ℕ) (m n : ℕ) where
   -- 33
-  pub inputs-refused : ltb m week && windowsFit ws ≡ false → opening ws m n ≡ noStart 33
+  inputs-refused : ltb m week && windowsFit ws ≡ false → opening ws m n ≡ noStart 33
   unfolding opening openingCode
   inputs-refused e = rw e
 

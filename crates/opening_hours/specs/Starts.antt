@@ -1,4 +1,4 @@
--- Words for the laws of windows (proofs/Fitting) and of the earliest start (proofs/Answers).
+-- Words for what is claimed of windows and of the earliest start.
 use mathlib.Core.Path.{_≡_}
 use mathlib.Core.Bool.{true, false}
 use mathlib.Core.List.{List}

@@ -8,30 +8,23 @@ use Rattle.tree.proofs.Cases.{by-bool}
 use Rattle.user.specs.Asking.{userSettingsFit, userFits, userSetupChecks, refused}
 use Rattle.user.specs.Outcome.{State, Lent, Outcome, refusal}
 use Rattle.user_update.specs.declared.call.Update.{Update}
-use Rattle.user_update.specs.Update.{noUpdate, updateSetup, updateEarly, updateStarted, updateTaken}
+use Rattle.user_update.specs.Update.{updateSetup, updateEarly, updateStarted, updateTaken}
 use Rattle.user_write.specs.declared.call.Write.{Write}
-use Rattle.user_write.specs.Write.{noWrite, writeStartChecks, writeChecks, writeWaits, writeStarted, writeUpdates, writeGoes, writeTaken}
+use Rattle.user_write.specs.Write.{writeStartChecks, writeChecks, writeWaits, writeStarted, writeUpdates, writeGoes, writeTaken}
 use Rattle.user_read.specs.declared.call.Read.{Read}
-use Rattle.user_read.specs.Read.{noRead, readChecks, readEarly, readStarted, readTaken}
+use Rattle.user_read.specs.Read.{readChecks, readEarly, readStarted, readTaken}
 use Rattle.user_give_up.specs.declared.call.GiveUp.{GiveUp}
-use Rattle.user_give_up.specs.GiveUp.{noGiveUp, giveUpSetup, giveUpChecks, giveUpStarted, giveUpTaken}
-use Rattle.user_update.proofs.UpdateAnswers.{update-start-refusal, update-refusal}
-use Rattle.user_write.proofs.WriteAnswers.{write-start-refusal, write-refusal}
-use Rattle.user_read.proofs.ReadAnswers.{read-start-refusal, read-refusal}
-use Rattle.user_give_up.proofs.GiveUpAnswers.{give-up-start-refusal, give-up-refusal}
-use Rattle.user_calls.specs.Calls.{Call, idle, updating, writing, reading, givingUp, Input, startUpdate, startWrite, startRead, startGiveUp, answer, asCall, strayCode, taken, stepped}
+use Rattle.user_give_up.specs.GiveUp.{giveUpSetup, giveUpChecks, giveUpStarted, giveUpTaken}
+use Rattle.user_update.proofs.UpdateAnswers.{update-start-refusal, update-refusal, no-update}
+use Rattle.user_write.proofs.WriteAnswers.{write-start-refusal, write-refusal, no-write}
+use Rattle.user_read.proofs.ReadAnswers.{read-start-refusal, read-refusal, no-read}
+use Rattle.user_give_up.proofs.GiveUpAnswers.{give-up-start-refusal, give-up-refusal, no-give-up}
+use Rattle.user_calls.specs.Calls.{Call, idle, updating, writing, reading, givingUp, Input, startUpdate, startWrite, startRead}
+use Rattle.user_calls.specs.Calls.{startGiveUp, answer, asCall, strayCode, taken, stepped}
+use Rattle.user_calls.specs.Claims.{refusedStep, StepRefusal, StartRefusal}
 
--- What a refused step leaves. A start that is refused hands back a call that takes no answer.
-abbrev pub refusedStep : ℕ → State → Lent → Call → Input → Outcome Call
-refusedStep code σ m c (startUpdate l) = refusal code [] σ l (updating noUpdate)
-refusedStep code σ m c (startWrite l entry randomizer) = refusal code [] σ l (writing noWrite)
-refusedStep code σ m c (startRead l i) = refusal code [] σ l (reading (noRead i))
-refusedStep code σ m c (startGiveUp l) = refusal code [] σ l (givingUp noGiveUp)
-refusedStep code σ m c (answer a) = refusal code a σ m c
-
-pub step-refusal : (s : Settings) (σ : State) (m : Lent) (c : Call) (i : Input) → (stepped s σ m c i .step .code ≡ 0 → ⊥)
-    → stepped s σ m c i ≡ refusedStep (stepped s σ m c i .step .code) σ m c i
-unfolding stepped taken refused
+pub step-refusal : StepRefusal
+unfolding StepRefusal stepped taken refused
 step-refusal s σ m c (startUpdate l) n = ap (λ (o : Outcome Update). asCall updating o) (update-start-refusal s σ l n)
 step-refusal s σ m c (startWrite l entry randomizer) n =
     ap (λ (o : Outcome Write). asCall writing o) (write-start-refusal s σ l entry randomizer n)
@@ -42,6 +35,15 @@ step-refusal s σ m (updating u) (answer a) n = ap (λ (o : Outcome Update). asC
 step-refusal s σ m (writing w) (answer a) n = ap (λ (o : Outcome Write). asCall writing o) (write-refusal s σ m w a n)
 step-refusal s σ m (reading r) (answer a) n = ap (λ (o : Outcome Read). asCall reading o) (read-refusal s σ m r a n)
 step-refusal s σ m (givingUp g) (answer a) n = ap (λ (o : Outcome GiveUp). asCall givingUp o) (give-up-refusal s σ m g a n)
+
+-- The call that a refused start hands back takes no answer.
+pub start-refusal : StartRefusal
+unfolding StartRefusal taken
+start-refusal s code σ m c (startUpdate l) start τ n a = no-update s τ n a
+start-refusal s code σ m c (startWrite l entry randomizer) start τ n a = no-write s τ n a
+start-refusal s code σ m c (startRead l i) start τ n a = no-read s τ n i a
+start-refusal s code σ m c (startGiveUp l) start τ n a = no-give-up s τ n a
+start-refusal s code σ m c (answer b) start τ n a = absurd (start b refl)
 
 -- Whichever step it is, what is kept stays.
 pub refused-state : (code : ℕ) (σ : State) (m : Lent) (c : Call) (i : Input) → refusedStep code σ m c i .state ≡ σ

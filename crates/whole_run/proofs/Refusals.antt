@@ -7,7 +7,8 @@ use borrow.Author.Tests.{eq-eqb, ne-eqb}
 use Rattle.tree.specs.Setup.{Settings}
 use Rattle.user.specs.Outcome.{Lent, Outcome}
 use Rattle.user_calls.specs.Calls.{Call, Input, startUpdate, startWrite, startRead, startGiveUp, answer, stepped}
-use Rattle.user_calls.proofs.Refusals.{refusedStep, step-refusal, refused-state}
+use Rattle.user_calls.specs.Claims.{refusedStep, StepRefusal}
+use Rattle.user_calls.proofs.Refusals.{step-refusal, refused-state}
 use Rattle.whole_run.specs.World.{User, after, userStep}
 
 -- A step that is refused, a start or an answer, leaves the user as it was.
@@ -39,7 +40,7 @@ refused-lent u code (answer a) = refl
 -- The outcome of a refused step has what is kept and that memory as they were.
 pub refused-start : (s : Settings) (u : User) (i : Input) → (userStep s u i .step .code ≡ 0 → ⊥)
     → (stepped s (u .state) (u .lent) (u .call) i .state ≡ u .state) × (stepped s (u .state) (u .lent) (u .call) i .lent ≡ lentTo u i)
-unfolding userStep
+unfolding userStep StepRefusal
 refused-start s u i n =
     let e = step-refusal s (u .state) (u .lent) (u .call) i n in
     (ap (λ (o : Outcome Call). o .state) e ∙ refused-state _ (u .state) (u .lent) (u .call) i, ap (λ (o : Outcome Call). o .lent) e ∙ refused-lent u _ i)
@@ -47,5 +48,5 @@ refused-start s u i n =
 -- And, of an answer, the call.
 pub refused-answer : (s : Settings) (u : User) (a : List ℕ) → (userStep s u (answer a) .step .code ≡ 0 → ⊥)
     → stepped s (u .state) (u .lent) (u .call) (answer a) .call ≡ u .call
-unfolding userStep
+unfolding userStep StepRefusal
 refused-answer s u a n = ap (λ (o : Outcome Call). o .call) (step-refusal s (u .state) (u .lent) (u .call) (answer a) n)
