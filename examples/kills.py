@@ -70,7 +70,7 @@ def clear_lock(folder):
 
 class Log:
     def __init__(self, kills):
-        self.wanted, self.killed, self.cut, self.given_up, self.unheard, self.entries = kills, 0, 0, 0, 0, []
+        self.wanted, self.killed, self.cut, self.given_up, self.apart, self.unheard, self.entries = kills, 0, 0, 0, 0, 0, []
         self.servers = [Server(i + 1) for i in range(N)]
 
     def run(self, user, *words, kills=True):
@@ -128,6 +128,7 @@ class Log:
             if said.startswith("code 28,"):
                 return False
             assert not said or re.match(r"no answer|.*OPERATING, Lock", said), said
+            self.look_in(3 - user)
             if "its give-up has begun" in said:
                 for refused in (words, ("update",)):
                     said = self.run(user, *refused)
@@ -135,9 +136,10 @@ class Log:
         raise AssertionError("never given up: %s" % (words,))
 
     def look_in(self, user):
-        """The other user's Update while a write may be open: done, or refused because of it."""
+        """The other user's Update while a write may be open: done, or refused because of it; 12 is for a give-up that was cut."""
         said = self.run(user, "update")
-        assert not said or re.match(r"no answer|code 0,|code 11, the server's [48],|.*OPERATING, Lock", said), said
+        assert not said or re.match(r"no answer|code 0,|code 11, the server's [48],|code 12,|.*OPERATING, Lock", said), said
+        self.apart += said.startswith("code 12,")
 
     def write(self, user, *words):
         said = self.until_done(user, *words, give_up=0.4)
@@ -229,9 +231,9 @@ def main():
     finally:
         for server in log.servers:
             server.pipeline.kill()
-    print("%d entries, %d kills, %d commands that had to be run again, %d writes given up, %d done whose end was not printed, %d signatures "
-          "with as many numbers; all read back by both users"
-          % (len(log.entries), log.killed, log.cut, log.given_up, log.unheard, signatures()))
+    print("%d entries, %d kills, %d commands that had to be run again, %d writes given up, %d Updates refused with 12 meanwhile, %d done whose "
+          "end was not printed, %d signatures with as many numbers; all read back by both users"
+          % (len(log.entries), log.killed, log.cut, log.given_up, log.apart, log.unheard, signatures()))
     shutil.rmtree(WORK)
 
 

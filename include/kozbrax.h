@@ -4,7 +4,8 @@
    NULL, also where the length is 0, that it reaches as many bytes as the length says, that a buffer which is written overlaps no other
    argument, and that nothing else writes what is lent during the call. No function keeps a pointer or allocates.
 
-   What a caller has to save, and when, stands under 'Custody' below. A key that signs twice under one number can be forged. */
+   What a caller has to save, and when, stands under 'Custody' below, and what its links have to keep under 'Links'. A key that signs twice
+   under one number can be forged. */
 #ifndef KOZBRAX_H
 #define KOZBRAX_H
 
@@ -74,7 +75,7 @@ enum kozbrax_code {
   KOZBRAX_BAD_RECORD = 14,            /* the Record's author is not listed, or its signature fails */
   KOZBRAX_OWN_DIGEST_DIFFERS = 15,    /* the cover does not give the user's own digest */
   KOZBRAX_RECORD_DIGEST_DIFFERS = 16, /* the cover does not give the Record's digest */
-  KOZBRAX_KEY_SPENT = 17,             /* the signature number is 1,024 */
+  KOZBRAX_KEY_SPENT = 17,             /* the signature number is 1,024; of kozbrax_lms_sign: 1,024 or more */
   KOZBRAX_WRITE_OPEN = 18,            /* a write is open: it comes first, or its give-up where one has begun */
   KOZBRAX_BAD_ENTRY = 19,             /* the entry's length, first byte, strike length or strike target */
   KOZBRAX_LOG_FULL = 20,              /* the position would be above 1,048,576 */
@@ -109,6 +110,18 @@ enum kozbrax_code {
    signs in two logs, or by kozbrax_lms_sign beside its Writes, needs one count for all.
    A user's state that was lost, or restored from an older copy, means a new key: nobody knows which numbers are used. A server whose state
    was lost, or restored from an older copy, no longer follows the rules: it may deny what it has answered. */
+
+/* Links: what a caller sees to between users and servers. Answers are not signed, and of requests only a Commit is.
+
+   What is given to kozbrax_take as the answer to a request is the answer of the server that was asked, to that request. That two views part
+   no longer than the wait is true only where this is so of some server that follows the rules: whoever can answer in that server's place
+   can show each user another log. The library cannot tell; a private network, ssh, or TLS with both ends known can.
+
+   A give-up asks more of the link: kozbrax_give_up_start.
+
+   An open write is resumed before another user writes. If its Commit was stored and the answer lost, and another user then writes, the
+   write is refused with 11 and 4 from then on, kozbrax_give_up_start with 28 and kozbrax_update_start with 18; the entry is in the log. No
+   call leads out, unless the other write is given up: this key can only read in this log. */
 
 /* The SHA-256 (FIPS 180-4) of the message, into the first 32 bytes of out.
    Returns 0, or 21 where out_len is below KOZBRAX_HASH, 32.
@@ -240,8 +253,9 @@ typedef struct {
 /* One call of server own, of `servers`: takes in a request of any bytes. log has 16 bytes; users are the public keys, 56 bytes each.
    head has KOZBRAX_HEAD, 79, bytes, big-endian: p (4 bytes at 0), l (1 at 4), author (2 at 5), digest (32 at 7); and the head that was
    there before the first Reserve for p: known (1 at 39), 1 or 0, its p (4 at 40), l (1 at 44), author (2 at 45), digest (32 at 47). All
-   are zero at first, and those from 39 on where no earlier head is known. The first `used` bytes of store are its records; at first there
-   are none. The caller keeps head, store and `used` from call to call.
+   are zero at first. Where known is 0, bytes 40 to 78 may be any: nothing looks at them, and they stay as they are until an accepted
+   Reserve of a higher p lays the earlier head there; a give-up that is accepted leaves zeros. The first `used` bytes of store are its
+   records; at first there are none. The caller keeps head, store and `used` from call to call.
    A give-up (kind 9, laid out as a Reserve) of the head's p, author and digest brings the earlier head back, and then no earlier one is
    known.
    Returns the code: 22 where `servers` is not 2 to 16, own not 1 to `servers`, users_len not 56 to 3,584 in steps of 56, the head out
@@ -346,17 +360,22 @@ kozbrax_asked kozbrax_read_start(uint32_t servers, uint32_t own, const uint8_t *
    Leaves, on 0: begun in kept, the give-up in call, and in the first bytes of request its request to the first server that is not done;
    where every server is done, no request but the end (ended is 1), with the write closed. Else: everything as it was.
    The answers go to kozbrax_take. A server is done once it has answered 0, or 27: its head is not this write's, or no longer, as where the
-   Reserve was refused or never came, or where this give-up was taken and its answer lost. Any other answer is refused, and the same server
-   is still to be told. With the last server's answer the write is closed: version, digest and signature number are as they were when the
-   first Reserve was handed out, and an Update or a Write may start.
+   Reserve was refused or never came, or where this give-up was taken and its answer lost; or it knows no earlier head. Any other answer is
+   refused, and the same server is still to be told. With the last server's answer the write is closed: version, digest and signature
+   number are as they were when the first Reserve was handed out, and an Update or a Write may start.
    Once begun, a give-up can only be repeated: kozbrax_update_start and kozbrax_write_start return 18, with the same entry too, and an
    answer to a request of the write is refused 10; a Read may go on. A call that was cut is repeated by this function, which skips the
    servers that are done.
    Custody: on 0, kept is on stable storage before the request is sent. Unsaved, the write could be resumed while a server has already taken
    its Reserve back, and the views of two users could part.
-   What the caller sees to on the way to a server: a give-up comes to it from its author alone, once each time that it was handed out, and
-   before any later request of this user or a copy of one; and an answer to a Reserve that was handed out before the give-up is not given
-   to kozbrax_take for an equal Reserve that was handed out after it. That two views part no longer than the wait rests on this. */
+   What the caller sees to on the way to a server.
+   So that two views part no longer than the wait: a give-up that the server accepts was handed out by this user, its author, and no copy
+   of it comes once the server has answered a Reserve that this user handed out after it; and an answer to a Reserve that was handed out
+   before the give-up is not given to kozbrax_take for an equal Reserve that was handed out after it.
+   So that the log goes on: a give-up is sent only when each earlier request of the write has arrived or can never arrive, and the answer
+   that is given to kozbrax_take is to this sending. A Reserve that arrives after its give-up was answered 27 is accepted. Then no write is
+   open, every user's Update is refused, and no call leads out.
+   A connection for each call that only this user can open, and that the server reads to its end before it takes the next, has all of it. */
 kozbrax_asked kozbrax_give_up_start(uint32_t servers, uint32_t own, const uint8_t *log, const uint8_t *users, size_t users_len,
                                     uint8_t *kept, const uint8_t *path, uint8_t *call, uint8_t *request, size_t request_len);
 

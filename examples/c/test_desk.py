@@ -277,8 +277,41 @@ def give_ups_with_kills(library, key):
     passed("20 writes dropped at a Reserve or the PutOperation, %d of them given up, %d kills" % (given_up, servers.killed))
 
 
+def older_slots(data):
+    """The places of the slots that are valid as version 0.1.0 laid them."""
+    places, store = [], data[8192:]
+    for at in (0, 4096):
+        before, used = (int.from_bytes(data[at + i:at + i + 8], "big") for i in (79, 87))
+        check = hashlib.sha256(data[at:at + 95] + store[before:used]).digest()
+        places += [at] if before <= used <= len(store) and check == data[at + 95:at + 127] else []
+    return places
+
+
+def start_and_end(folder, own):
+    """A start with no request, and the file after it."""
+    assert Desk(folder, own).end()[0] == 0
+    return file_of(folder)
+
+
+def cut_starts(folder, own, older):
+    """What a start on a file of version 0.1.0 leaves where it is cut in one of its two saves: the next start has the same state."""
+    whole = start_and_end(folder, own)
+    number, head, store = state_of(whole)
+    assert not older_slots(whole) and slot_state(whole, 0) and slot_state(whole, 4096)
+    first, second = (0, 4096) if slot_state(whole, 0)[0] < slot_state(whole, 4096)[0] else (4096, 0)
+    for saved in list(range(0, 334, 30)) + [167, 333]:
+        data = bytearray(older)
+        data[first:first + min(saved, 167)] = whole[first:first + min(saved, 167)]
+        data[second:second + max(saved - 167, 0)] = whole[second:second + max(saved - 167, 0)]
+        write_file(folder, data)
+        after = start_and_end(folder, own)
+        assert not older_slots(after) and state_of(after)[0] >= number - 1 and state_of(after)[1:] == (head, store), saved
+    write_file(folder, older)
+
+
 def older_files(library, key):
-    """Files from before give-ups, with a head of 39 bytes in each slot, are read as they are, and the next save is as they are now."""
+    """Files of version 0.1.0, from before give-ups, with a head of 39 bytes in each slot, are read as they are. Both slots are laid anew at the
+    start, also where one of them, or a part of one, was before the start was cut; so version 0.1.0 finds no state to go on from."""
     servers, user = Servers(library, key, os.path.join(WORK, "older"), 0), User(library, key)
     for i in range(3):
         assert user.write(b"\1firing %d" % i, servers.send).code == 0
@@ -290,7 +323,9 @@ def older_files(library, key):
             before, used = (int.from_bytes(slot[i:i + 8], "big") for i in (119, 127))
             older = slot[:79] + slot[119:135]
             data[at:at + 167] = (older + hashlib.sha256(older + store[before:used]).digest()).ljust(167, b"\0")
+        assert older_slots(data) == [0, 4096]
         write_file(folder, data)
+        cut_starts(folder, model.own, data)
         model.head[39:79] = bytes(40)
     desks = [Desk(f, i + 1) for i, f in enumerate(servers.folders)]
 
@@ -303,7 +338,8 @@ def older_files(library, key):
     assert [user.read(i + 1, send) for i in range(4)] == [(0, 1, b"\1firing %d" % i) for i in range(4)]
     assert all(desk.end() == (0, "") for desk in desks)
     assert all(servers.state(i) == model.state() for i, model in enumerate(servers.models))
-    passed("files from before give-ups: read, and saved anew")
+    assert not any(older_slots(file_of(folder)) for folder in servers.folders)
+    passed("files of version 0.1.0: read, and both slots laid anew at the start, also at one that was cut in its saves")
 
 
 def order_of_calls(requests):

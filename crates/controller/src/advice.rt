@@ -1,26 +1,42 @@
 // What a refusal asks of the person who runs the command; docs/OPERATING.md has the same table.
 use programs::print;
 
-// What to do after a code, and after the server's where the code is 11.
-pub fn after(code: u32, servers_code: u32) {
+// What to do after a code, and after the server's where the code is 11; `signed` says whether a write is open whose Commit was handed out.
+pub fn after(code: u32, servers_code: u32, signed: bool) {
     if code == 0 {
         return;
     }
     print::text(b"  what to do: ");
-    if code == 11 {
-        of_server(servers_code);
-    } else {
+    if code != 11 {
         of_user(code);
+    } else if servers_code == 4 {
+        of_taken(signed);
+    } else {
+        of_server(servers_code);
     }
     print::text(b"\n");
 }
 
+// After 4, which says that the position is taken. All servers of a write that is signed had accepted it, so one that says 4 now has a later
+// position, which a user reserves only where the Commit is stored.
+fn of_taken(signed: bool) {
+    if signed {
+        print::text(
+            b"no alarm: this write is in the log, but another user wrote after it before this command was run again. Unless that user gives \
+            its write up, this key can only read in this log: OPERATING, 'A write that cannot be finished'",
+        );
+    } else {
+        print::text(
+            b"another user's write came first or is open, and nothing is lost: run the command again once it has ended; where two open \
+            writes keep each other out, one has to `give-up`",
+        );
+    }
+}
+
 // After a server's own code; the alarm is for what servers that follow the rules do not cause.
 fn of_server(code: u32) {
-    if code == 4 || code == 8 {
-        print::text(
-            b"another user's write is open or came first: run the command again once it has ended; where it stays, one has to `give-up`",
-        );
+    if code == 8 {
+        others();
     } else if code == 9 {
         print::text(b"a server's store is full: give it a larger one, and run the command again");
     } else if code < 4 {
@@ -32,8 +48,12 @@ fn of_server(code: u32) {
     }
 }
 
-// After a code that a user gives; 10 to 16 and 23 are an alarm.
+// After a code that a user gives; 10, 13 to 16 and 23 are an alarm.
 fn of_user(code: u32) {
+    if code == 12 {
+        others();
+        return;
+    }
     if code < 17 || code == 23 {
         alarm();
         return;
@@ -51,6 +71,15 @@ fn of_user(code: u32) {
         1000 the state could not be saved: see to the disk, and run the command again\n\
         1001 the server did not answer: see to its link, and run the command again\n\
         else tell the makers: this code should not come here",
+    );
+}
+
+// After 8 and 12, which come from a write or a give-up of another user that was cut. A give-up tells one server after the other, so until it
+// is repeated heads may lie far apart.
+fn others() {
+    print::text(
+        b"another user's write or give-up goes on or was cut, and nothing is lost: run the command again once it has ended. An ALARM \
+        where it stays and no user has a write open: fire nothing new, keep the folder, compare with other users",
     );
 }
 

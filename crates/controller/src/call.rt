@@ -36,6 +36,23 @@ pub fn save(file: i32, memory: &mut [u8]) -> bool {
     if is_saved(memory) {
         return true;
     }
+    save_now(file, memory)
+}
+
+// Where a slot is of version 0.1.0, saves the state to both, so that its programs find none to go on from. Whether the state is on its
+// device. A save that is cut leaves the same state in the other slot.
+pub fn replace_older(file: i32, memory: &mut [u8]) -> bool {
+    if !user_file::has_older(file) {
+        return true;
+    }
+    if !save_now(file, memory) {
+        return false;
+    }
+    save_now(file, memory)
+}
+
+// Saves the user's state, and answers whether it is on its device.
+fn save_now(file: i32, memory: &mut [u8]) -> bool {
     let mut room = [0u8; 4324];
     let state: &mut [u8] = &mut room;
     step::load(memory, 0, state);

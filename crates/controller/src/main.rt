@@ -137,7 +137,14 @@ fn load(g: Settings, fd: i32, users: &[u8], memory: &mut [u8]) -> bool {
     let mark = setup::hash((g.servers % 256) as u8, (g.own % 256) as u8, name, users);
     bytes::put(memory, 0, state);
     bytes::put(memory, step::SAVED, state);
-    bind(mark, memory)
+    if !bind(mark, memory) {
+        return false;
+    }
+    if call::replace_older(fd, memory) {
+        return true;
+    }
+    os::fail(b"the state cannot be written");
+    false
 }
 
 // Binds the state to a setup where nothing is accepted or signed yet. Whether it is of this setup then.

@@ -34,7 +34,12 @@ pub fn outcome(asked: Asked, memory: &[u8]) {
     if code < 256 {
         sentence::refusal((code % 256) as u8, (asked.refusal % 256) as u8);
     }
-    advice::after(code, asked.refusal);
+    advice::after(code, asked.refusal, is_signed(memory));
+}
+
+// Whether a write is open that is signed: its Commit was handed out.
+fn is_signed(memory: &[u8]) -> bool {
+    bytes::byte_at(memory, user_file::KEPT + 41) == 1
 }
 
 // What an entry holds: its text, what it strikes, or that it is a schedule.
@@ -73,7 +78,9 @@ fn ways_to_end(memory: &[u8]) {
     if bytes::byte_at(memory, user_file::KEPT + 44) == 1 {
         print::text(b"  its give-up has begun: run `give-up` until it is done\n");
     } else if bytes::byte_at(memory, user_file::KEPT + 43) == 1 {
-        print::text(b"  it can only be resumed: run its command again\n");
+        print::text(
+            b"  it can only be resumed: run its command again, before another user writes\n",
+        );
     } else {
         print::text(b"  it can be resumed by its command, or given up by `give-up`\n");
     }

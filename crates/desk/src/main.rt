@@ -78,7 +78,10 @@ fn serve_folder(d: Settings, mark: [u8; 32], folder: &[u8], users: &[u8]) {
     let store: &mut [u8] = &mut space;
     let mut slot = [0u8; 167];
     let s: &mut [u8] = &mut slot;
-    if log::load(fd, mark, s, store) && serve::takes(d, users, store, s) {
+    if log::load(fd, mark, s, store)
+        && serve::takes(d, users, store, s)
+        && log::replace_older(fd, s, store)
+    {
         serve::turns(fd, d, users, store, s);
     }
     libc::close(fd);

@@ -11,7 +11,7 @@ use Rattle.c_layout.specs.declared.using.Asked.{Asked}
 use Rattle.c_layout.specs.User.{UserLent, updateBegun, readBegun, writeBegun, giveUpBegun, userAnswered, Begins, WriteBegins, GiveUpBegins, UserYields}
 use Rattle.exchange.specs.declared.buffers.Buffers.{Buffers}
 use Rattle.exchange.specs.declared.user_place.Settings.{Settings}
-use Rattle.exchange.specs.UserStep.{groupOf, startLeft, updateMade, readMade, writeMade, keptWith, giveUpMade, lentBy, answerLeft, answerMade, stepBytes}
+use Rattle.exchange.specs.UserStep.{groupOf, callStarted, updateMade, readMade, writeMade, keptWith, giveUpMade, lentBy, answerTaken, answerMade, stepBytes}
 
 -- a number's two bytes
 pub be-two-mod : (n : ℕ) → be 2 (n % 65536) ≡ be 2 n
@@ -36,33 +36,33 @@ from-zero n = omega arith
 
 -- a start, of which the first n bytes of the request buffer are lent
 module _ (s : Settings) (users : List ℕ) (n : ℕ) (b : Buffers) (r : Asked) (call part : List ℕ) where
-  pub update-left : Begins (updateBegun (groupOf s users) (b .kept) (b .call) (take (n - 0) (b .request))) r call part
-      → startLeft r b call (b .held) (part ++ drop (n - 0) (b .request)) ≡ updateMade s users n b
+  pub update-started : Begins (updateBegun (groupOf s users) (b .kept) (b .call) (take (n - 0) (b .request))) r call part
+      → callStarted r b call (b .held) (part ++ drop (n - 0) (b .request)) ≡ updateMade s users n b
   unfolding updateMade
-  update-left e = rw (e .0, e .1 .0, e .1 .1, from-zero n)
+  update-started e = rw (e .0, e .1 .0, e .1 .1, from-zero n)
 
-  pub read-left : (entry : List ℕ) → entry ≡ take (s .entry) (b .entry)
+  pub read-started : (entry : List ℕ) → entry ≡ take (s .entry) (b .entry)
       → Begins (readBegun (groupOf s users) (s .number) (b .kept) (b .call) (take (n - 0) (b .request)) entry) r call part
-      → startLeft r b call (b .held) (part ++ drop (n - 0) (b .request)) ≡ readMade s users n b
+      → callStarted r b call (b .held) (part ++ drop (n - 0) (b .request)) ≡ readMade s users n b
   unfolding readMade
-  read-left entry ee e = rw (e .0, e .1 .0, e .1 .1, from-zero n, ee)
+  read-started entry ee e = rw (e .0, e .1 .0, e .1 .1, from-zero n, ee)
 
-  pub write-left : (tree entry held : List ℕ)
+  pub write-started : (tree entry held : List ℕ)
       → WriteBegins (writeBegun (groupOf s users) tree entry (replicate 32 (s .number % 256)) (b .kept) (b .path) (b .call) (b .held)
       (take (n - 0) (b .request))) r call held part
-      → startLeft r b call held (part ++ drop (n - 0) (b .request)) ≡ writeMade s users tree n entry b
+      → callStarted r b call held (part ++ drop (n - 0) (b .request)) ≡ writeMade s users tree n entry b
   unfolding writeMade
-  write-left tree entry held e = rw (e .0 .0, e .0 .1 .0, e .0 .1 .1, e .1, from-zero n)
+  write-started tree entry held e = rw (e .0 .0, e .0 .1 .0, e .0 .1 .1, e .1, from-zero n)
 
-  pub give-up-left : (kept : List ℕ)
+  pub give-up-started : (kept : List ℕ)
       → GiveUpBegins (giveUpBegun (groupOf s users) (b .kept) (b .path) (b .call) (take (n - 0) (b .request))) r kept call part
-      → startLeft r (keptWith kept b) call (b .held) (part ++ drop (n - 0) (b .request)) ≡ giveUpMade s users n b
+      → callStarted r (keptWith kept b) call (b .held) (part ++ drop (n - 0) (b .request)) ≡ giveUpMade s users n b
   unfolding giveUpMade
-  give-up-left kept e = rw (e .0 .0, e .0 .1 .0, e .0 .1 .1, e .1, from-zero n)
+  give-up-started kept e = rw (e .0 .0, e .0 .1 .0, e .0 .1 .1, e .1, from-zero n)
 
 -- an answer that is taken in, with the first k bytes of the entry buffer
-pub answer-left : (s : Settings) (users tree : List ℕ) (n k : ℕ) (answer : List ℕ) (b : Buffers) (r : Asked) (l : UserLent)
+pub answer-taken : (s : Settings) (users tree : List ℕ) (n k : ℕ) (answer : List ℕ) (b : Buffers) (r : Asked) (l : UserLent)
     → UserYields (userAnswered (groupOf s users) (lentBy (n - 0) (k - 0) b) (keyOf (replicate 16 (s .own % 256)) (replicate 32 (s .own % 256)) tree) answer) r l
-    → answerLeft (n - 0) (k - 0) b r l ≡ answerMade s users tree n k answer b
+    → answerTaken (n - 0) (k - 0) b r l ≡ answerMade s users tree n k answer b
 unfolding answerMade
-answer-left s users tree n k answer b r l e = rw (e .0, e .1, from-zero n, from-zero k)
+answer-taken s users tree n k answer b r l e = rw (e .0, e .1, from-zero n, from-zero k)

@@ -15,7 +15,7 @@ use Rattle.c_layout.specs.declared.using.SettledAnswer.{SettledAnswer}
 use Rattle.c_layout.specs.User.{UserLent, userLent, updateBegun, readBegun, writeBegun, giveUpBegun, userAnswered, settledAnswer}
 use Rattle.exchange.specs.declared.buffers.Buffers.{Buffers}
 use Rattle.exchange.specs.declared.user_place.Settings.{Settings}
-use Rattle.exchange.specs.declared.user_step.Left.{Left}
+use Rattle.exchange.specs.declared.user_step.Outcome.{Outcome}
 use Rattle.exchange.specs.UserPlace.{loaded, callAt, stepAt, askedAt, pathAt, signatureAt, hashesAt, heldAt, requestAt, entryAt}
 use Rattle.exchange.specs.LogName.{logName}
 
@@ -73,28 +73,28 @@ buffersOf l =
     }
 
 -- The buffers after a start: the call, the entry that it holds and the request may change.
-unfoldable pub startLeft : Asked → Buffers → List ℕ → List ℕ → List ℕ → Left
-startLeft asked b call held request =
+unfoldable pub callStarted : Asked → Buffers → List ℕ → List ℕ → List ℕ → Outcome
+callStarted asked b call held request =
     let after = userLent (b .kept) (b .path) (b .signature) call (b .hashes) held request (b .entry) in
     record { asked = asked; buffers = buffersOf after }
 
 -- The start of an Update, of a Read at the settings' number, and of a Write, whose randomizer is the number 32 times. Of the request buffer
 -- the first n bytes are lent.
-unfoldable pub updateMade : Settings → List ℕ → ℕ → Buffers → Left
+unfoldable pub updateMade : Settings → List ℕ → ℕ → Buffers → Outcome
 updateMade s users n b =
     let o = updateBegun (groupOf s users) (b .kept) (b .call) (take n (b .request)) in
-    startLeft (o .result) b (o .lent .call) (b .held) (o .lent .request ++ drop n (b .request))
+    callStarted (o .result) b (o .lent .call) (b .held) (o .lent .request ++ drop n (b .request))
 
-unfoldable pub readMade : Settings → List ℕ → ℕ → Buffers → Left
+unfoldable pub readMade : Settings → List ℕ → ℕ → Buffers → Outcome
 readMade s users n b =
     let o = readBegun (groupOf s users) (s .number) (b .kept) (b .call) (take n (b .request)) (take (s .entry) (b .entry)) in
-    startLeft (o .result) b (o .lent .call) (b .held) (o .lent .request ++ drop n (b .request))
+    callStarted (o .result) b (o .lent .call) (b .held) (o .lent .request ++ drop n (b .request))
 
-unfoldable pub writeMade : Settings → List ℕ → List ℕ → ℕ → List ℕ → Buffers → Left
+unfoldable pub writeMade : Settings → List ℕ → List ℕ → ℕ → List ℕ → Buffers → Outcome
 writeMade s users tree n entry b =
     let randomizer = replicate 32 (s .number % 256) in
     let o = writeBegun (groupOf s users) tree entry randomizer (b .kept) (b .path) (b .call) (b .held) (take n (b .request)) in
-    startLeft (o .result) b (o .lent .call) (o .lent .held) (o .lent .request ++ drop n (b .request))
+    callStarted (o .result) b (o .lent .call) (o .lent .held) (o .lent .request ++ drop n (b .request))
 
 -- The buffers with another kept state.
 unfoldable pub keptWith : List ℕ → Buffers → Buffers
@@ -102,10 +102,10 @@ keptWith kept b =
     buffersOf (userLent kept (b .path) (b .signature) (b .call) (b .hashes) (b .held) (b .request) (b .entry))
 
 -- The start of a give-up, which is kept once it has begun.
-unfoldable pub giveUpMade : Settings → List ℕ → ℕ → Buffers → Left
+unfoldable pub giveUpMade : Settings → List ℕ → ℕ → Buffers → Outcome
 giveUpMade s users n b =
     let o = giveUpBegun (groupOf s users) (b .kept) (b .path) (b .call) (take n (b .request)) in
-    startLeft (o .result) (keptWith (o .lent .kept) b) (o .lent .call) (b .held) (o .lent .request ++ drop n (b .request))
+    callStarted (o .result) (keptWith (o .lent .kept) b) (o .lent .call) (b .held) (o .lent .request ++ drop n (b .request))
 
 -- What an answer is taken in with: n bytes of the request buffer and k of the entry buffer.
 unfoldable pub lentBy : ℕ → ℕ → Buffers → UserLent
@@ -113,23 +113,23 @@ lentBy n k b =
     userLent (b .kept) (b .path) (b .signature) (b .call) (b .hashes) (b .held) (take n (b .request)) (take k (b .entry))
 
 -- What it leaves.
-unfoldable pub answerLeft : ℕ → ℕ → Buffers → Asked → UserLent → Left
-answerLeft n k b asked l =
+unfoldable pub answerTaken : ℕ → ℕ → Buffers → Asked → UserLent → Outcome
+answerTaken n k b asked l =
     let request = l .request ++ drop n (b .request) in
     let entry = l .entry ++ drop k (b .entry) in
     let after = userLent (l .kept) (l .path) (l .signature) (l .call) (l .hashes) (l .held) request entry in
     record { asked = asked; buffers = buffersOf after }
 
 -- An answer that is taken in. The own key has the own number as one byte, 16 times as its identifier and 32 times as its seed.
-unfoldable pub answerMade : Settings → List ℕ → List ℕ → ℕ → ℕ → List ℕ → Buffers → Left
+unfoldable pub answerMade : Settings → List ℕ → List ℕ → ℕ → ℕ → List ℕ → Buffers → Outcome
 answerMade s users tree n k answer b =
     let name = s .own % 256 in
     let key = keyOf (replicate 16 name) (replicate 32 name) tree in
     let o = userAnswered (groupOf s users) (lentBy n k b) key answer in
-    answerLeft n k b (o .result) (o .lent)
+    answerTaken n k b (o .result) (o .lent)
 
 -- Kind 0 takes in an answer; 1 starts an Update, 3 a Read, 4 a give-up, any other a Write.
-unfoldable pub stepMade : Settings → List ℕ → List ℕ → Buffers → Left
+unfoldable pub stepMade : Settings → List ℕ → List ℕ → Buffers → Outcome
 stepMade s keys input b =
     let users = take (s .users) keys in
     let tree = treeLent s keys in
@@ -156,8 +156,8 @@ stepLaid kind a place =
 -- The place after a step.
 unfoldable pub stepOn : Settings → List ℕ → List ℕ → List ℕ → List ℕ
 stepOn s keys input place =
-    let left = stepMade s keys input (buffersIn place) in
-    stepLaid (s .kind) (left .asked) (memoryLaid (left .buffers) (stateLaid (left .buffers) place))
+    let o = stepMade s keys input (buffersIn place) in
+    stepLaid (s .kind) (o .asked) (memoryLaid (o .buffers) (stateLaid (o .buffers) place))
 
 -- Whether the own operation at the settings' number is settled.
 unfoldable pub settledOn : Settings → List ℕ → List ℕ → SettledAnswer

@@ -175,10 +175,10 @@ fn keep_step(kind: u8, asked: Asked, place: &mut [u8])
 pub fn step(s: Settings, keys: &[u8], input: &[u8], place: &mut [u8])
     ensures { λ _. ⌜ now (place .exit) ≡ stepOn s (now (keys .entry)) (now (input .entry)) (now (place .entry)) ⌝ }
 {
-    let left = user_step::made(s, keys, input, buffers::of_place(place));
-    let after = left.buffers;
+    let outcome = user_step::made(s, keys, input, buffers::of_place(place));
+    let after = outcome.buffers;
     buffers::lay(after, place);
-    keep_step(s.kind, left.asked, place);
+    keep_step(s.kind, outcome.asked, place);
 }
 
 // Whether the own operation at the settings' number is settled.

@@ -2,7 +2,7 @@
 ghost use mathlib.Core.Path.{_≡_};
 ghost use Prim.Native.Nat.{_≤_};
 ghost use lib.ListN.{length};
-ghost use Rattle.exchange.specs.UserStep.{treeLent, startLeft, updateMade, readMade, writeMade, giveUpMade, answerMade, stepMade};
+ghost use Rattle.exchange.specs.UserStep.{treeLent, callStarted, updateMade, readMade, writeMade, giveUpMade, answerMade, stepMade};
 use crate::buffers::Buffers;
 use crate::user_place::Settings;
 use c_layout::taking;
@@ -13,13 +13,13 @@ use programs::line;
 use sha256::bytes;
 
 // What a step gives, and the buffers after it.
-pub struct Left {
+pub struct Outcome {
     pub asked: Asked,
     pub buffers: Buffers,
 }
 
 // The step: kind 0 takes in an answer; 1 starts an Update, 3 a Read, 4 a give-up, any other a Write.
-pub fn made(s: Settings, keys: &[u8], input: &[u8], b: Buffers) -> Left
+pub fn made(s: Settings, keys: &[u8], input: &[u8], b: Buffers) -> Outcome
     ensures { λ r. ⌜ r ≡ stepMade s (now (keys .entry)) (now (input .entry)) b ⌝ }
 {
     let users = bytes::front(keys, s.users as usize);
@@ -41,24 +41,24 @@ pub fn made(s: Settings, keys: &[u8], input: &[u8], b: Buffers) -> Left
 }
 
 // What a start gives, with the buffers that it may change.
-fn start_left(
+fn call_started(
     asked: Asked,
     b: Buffers,
     call: [u8; 82],
     held: [u8; 1026],
     request: [u8; 2566],
-) -> Left
-    ensures { λ r. ⌜ r ≡ startLeft asked b call held request ⌝ }
+) -> Outcome
+    ensures { λ r. ⌜ r ≡ callStarted asked b call held request ⌝ }
 {
     let mut buffers = b;
     buffers.call = call;
     buffers.held = held;
     buffers.request = request;
-    Left { asked, buffers }
+    Outcome { asked, buffers }
 }
 
 // The start of an Update. Of the request buffer the first `room` bytes are lent, here and in the steps below.
-fn update_made(s: Settings, users: &[u8], room: usize, b: Buffers) -> Left
+fn update_made(s: Settings, users: &[u8], room: usize, b: Buffers) -> Outcome
     requires { ⌜ room ≤ length (b .request) ⌝ }
     ensures { λ r. ⌜ r ≡ updateMade s (now (users .entry)) room b ⌝ }
 {
@@ -76,11 +76,11 @@ fn update_made(s: Settings, users: &[u8], room: usize, b: Buffers) -> Left
         &mut call,
         &mut request[0..room],
     );
-    start_left(asked, b, call, held, request)
+    call_started(asked, b, call, held, request)
 }
 
 // The start of a Read.
-fn read_made(s: Settings, users: &[u8], room: usize, b: Buffers) -> Left
+fn read_made(s: Settings, users: &[u8], room: usize, b: Buffers) -> Outcome
     requires { ⌜ room ≤ length (b .request) ⌝ }
     ensures { λ r. ⌜ r ≡ readMade s (now (users .entry)) room b ⌝ }
 {
@@ -101,11 +101,18 @@ fn read_made(s: Settings, users: &[u8], room: usize, b: Buffers) -> Left
         &mut request[0..room],
         bytes::front(&entry, s.entry as usize),
     );
-    start_left(asked, b, call, held, request)
+    call_started(asked, b, call, held, request)
 }
 
 // The start of a Write of this entry.
-fn write_made(s: Settings, users: &[u8], tree: &[u8], room: usize, entry: &[u8], b: Buffers) -> Left
+fn write_made(
+    s: Settings,
+    users: &[u8],
+    tree: &[u8],
+    room: usize,
+    entry: &[u8],
+    b: Buffers,
+) -> Outcome
     requires { ⌜ room ≤ length (b .request) ⌝ }
     ensures { λ r. ⌜ r ≡ writeMade s (now (users .entry)) (now (tree .entry)) room (now (entry .entry)) b ⌝ }
 {
@@ -130,11 +137,11 @@ fn write_made(s: Settings, users: &[u8], tree: &[u8], room: usize, entry: &[u8],
         &mut held,
         &mut request[0..room],
     );
-    start_left(asked, b, call, held, request)
+    call_started(asked, b, call, held, request)
 }
 
 // The start of a give-up, or of its repeat.
-fn give_up_made(s: Settings, users: &[u8], room: usize, b: Buffers) -> Left
+fn give_up_made(s: Settings, users: &[u8], room: usize, b: Buffers) -> Outcome
     requires { ⌜ room ≤ length (b .request) ⌝ }
     ensures { λ r. ⌜ r ≡ giveUpMade s (now (users .entry)) room b ⌝ }
 {
@@ -156,7 +163,7 @@ fn give_up_made(s: Settings, users: &[u8], room: usize, b: Buffers) -> Left
     );
     let mut begun = b;
     begun.kept = kept;
-    start_left(asked, begun, call, held, request)
+    call_started(asked, begun, call, held, request)
 }
 
 // The part of the own key tree that is lent.
@@ -175,7 +182,7 @@ fn answer_made(
     size: usize,
     answer: &[u8],
     b: Buffers,
-) -> Left
+) -> Outcome
     requires { ⌜ (room ≤ length (b .request)) × (size ≤ length (b .entry)) ⌝ }
     ensures { λ r. ⌜ r ≡ answerMade s (now (users .entry)) (now (tree .entry)) room size (now (answer .entry)) b ⌝ }
 {
@@ -218,5 +225,5 @@ fn answer_made(
         request,
         entry,
     };
-    Left { asked, buffers }
+    Outcome { asked, buffers }
 }

@@ -3,7 +3,7 @@
 ghost use mathlib.Core.Path.{_≡_};
 ghost use mathlib.Core.List.{[]};
 ghost use Rattle.state_files.specs.Slot.{advanced};
-ghost use Rattle.state_files.specs.Older.{userNow};
+ghost use Rattle.state_files.specs.Older.{userIsOlder, userNow};
 use crate::file;
 use crate::report;
 use crate::slot;
@@ -34,18 +34,25 @@ pub fn save(fd: i32, s: &mut [u8]) -> bool
     libc::fsync(fd) == 0
 }
 
-// Lays a slot of version 0.1.0, in which 42 bytes were kept, as slots are laid now. One that is whole as it is stays as it is. A write that
-// is open can be resumed, but not given up: whether its PutOperation was handed out is not known.
+// Whether a slot is of version 0.1.0, in which 42 bytes were kept: whole as that laid it, and not as slots are laid now.
+fn is_older(s: &[u8; 4324]) -> bool
+    ensures { λ r. ⌜ r ≡ userIsOlder (now (s .entry)) ⌝ }
+{
+    if slot::is_whole(s, b"") {
+        return false;
+    }
+    slot::is_whole(bytes::front(s, 4320), b"")
+}
+
+// Lays a slot of version 0.1.0 as slots are laid now, and leaves any other as it is. A write that is open can be resumed, but not given up:
+// whether its PutOperation was handed out is not known.
 fn renew(s: &mut [u8; 4324])
     ensures { λ _. ⌜ now (s .exit) ≡ userNow (now (s .entry)) ⌝ }
 {
-    if slot::is_whole(s, b"") {
+    if !is_older(s) {
         return;
     }
     let old = *s;
-    if !slot::is_whole(bytes::front(&old, 4320), b"") {
-        return;
-    }
     let opened = old[80];
     let progress = [opened, opened, 0, 0];
     bytes::put2(s, 82, &progress, bytes::front(bytes::from(&old, 82), 4206));
@@ -79,4 +86,15 @@ pub fn load(fd: i32, s: &mut [u8]) -> bool {
         return false;
     }
     choose(&first, &second, s)
+}
+
+// Whether one of the two slots is of version 0.1.0, whose programs would go on from it.
+pub fn has_older(fd: i32) -> bool {
+    is_older_at(fd, 0) || is_older_at(fd, SECOND)
+}
+
+fn is_older_at(fd: i32, at: u32) -> bool {
+    let mut s = [0u8; 4324];
+    file::read_from(fd, at, &mut s);
+    is_older(&s)
 }

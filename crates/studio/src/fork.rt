@@ -47,13 +47,11 @@ pub fn notice(g: Group, own: u8, operation: u32, open_before: bool, world: &[u8]
     if !shows(code, bytes::byte_at(place, user_place::REFUSAL)) {
         return;
     }
-    if code == 11 {
-        if open_before {
-            print::text(
-                b"  a write was open, which can be the reason: this alone does not show the fork\n",
-            );
-            return;
-        }
+    if open_before && may_wait(code) {
+        print::text(
+            b"  a write was open, which can be the reason: this alone does not show the fork\n",
+        );
+        return;
     }
     report::noticed(g, own, operation);
 }
@@ -68,6 +66,12 @@ fn shows(code: u8, refusal: u8) -> bool {
         23 => true,
         _ => false,
     }
+}
+
+// Whether an open write can be the reason of a refusal: of 11, since servers have a head whose Commit they do not have, and of 12 where its
+// give-up was cut, since servers are told in the order of their numbers and some heads are behind then.
+fn may_wait(code: u8) -> bool {
+    code == 11 || code == 12
 }
 
 // Compares the views of two users: says where their reads differ first, if they do.

@@ -1,6 +1,6 @@
 use Rattle.c_layout.specs.User.{userLent}
-use Rattle.exchange.specs.UserStep.{lentBy, answerLeft, buffersOf}
-use Rattle.exchange.proofs.Steps.{answer-left}
+use Rattle.exchange.specs.UserStep.{lentBy, answerTaken, buffersOf}
+use Rattle.exchange.proofs.Steps.{answer-taken}
 use borrow.Author.Needs.{needs}
 use Rattle.exchange.proofs.user_step.answer_made.Statement.{statement}
 use Rattle.exchange.proofs.user_step.answer_made.Tie as tie
@@ -39,14 +39,14 @@ take-requires : tie.Need-take-requires
 take-requires c κs = search needs
 
 returns : tie.Need-returns
-unfolding lentBy answerLeft buffersOf
+unfolding lentBy answerTaken buffersOf
 returns c =
     let c8 = c .before .before .before .before .before .before .before .before in
     let c16 = c8 .before .before .before .before .before .before .before .before in
     let c24 = c16 .before .before .before .before .before .before .before .before in
     let args = c24 .before .before .before .args in
     let taken = c .before .before .take .ensures in
-    answer-left (args .s) _ _ _ _ _ (args .b) _ (userLent _ _ _ _ _ _ _ _) taken
+    answer-taken (args .s) _ _ _ _ _ (args .b) _ (userLent _ _ _ _ _ _ _ _) taken
 
 pub answer-made-spec : {M : Type 1} → statement M
 answer-made-spec =

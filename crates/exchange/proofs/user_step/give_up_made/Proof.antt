@@ -1,6 +1,6 @@
 use Rattle.exchange.specs.UserStep.{keptWith, buffersOf}
 use mathlib.Core.Path.{_∙_}
-use Rattle.exchange.proofs.Steps.{give-up-left}
+use Rattle.exchange.proofs.Steps.{give-up-started}
 use borrow.Author.Needs.{needs}
 use Rattle.exchange.proofs.user_step.give_up_made.Statement.{statement}
 use Rattle.exchange.proofs.user_step.give_up_made.Tie as tie
@@ -17,8 +17,8 @@ part-request-end c = c .before .before .before .before .before .before .before .
 give-up-start-requires : tie.Need-give-up-start-requires
 give-up-start-requires c κs = search needs
 
-start-left-requires : tie.Need-start-left-requires
-start-left-requires c κs = search needs
+call-started-requires : tie.Need-call-started-requires
+call-started-requires c κs = search needs
 
 returns : tie.Need-returns
 unfolding keptWith buffersOf
@@ -26,7 +26,7 @@ returns c =
     let c8 = c .before .before .before .before .before .before .before .before in
     let args = c8 .before .before .before .before .before .before .args in
     let give-up-start = c .before .before .give-up-start .ensures in
-    c .start-left .ensures ∙ give-up-left (args .s) _ _ (args .b) _ _ _ _ give-up-start
+    c .call-started .ensures ∙ give-up-started (args .s) _ _ (args .b) _ _ _ _ give-up-start
 
 pub give-up-made-spec : {M : Type 1} → statement M
 give-up-made-spec =
@@ -36,5 +36,5 @@ give-up-made-spec =
     part-request-start
     part-request-end
     give-up-start-requires
-    start-left-requires
+    call-started-requires
     returns)

@@ -1,4 +1,4 @@
-use Rattle.exchange.proofs.Steps.{read-left}
+use Rattle.exchange.proofs.Steps.{read-started}
 use mathlib.Core.Path.{_∙_}
 use borrow.Author.Needs.{needs}
 use Rattle.exchange.proofs.user_step.read_made.Statement.{statement}
@@ -25,8 +25,8 @@ front-requires c κs = search needs
 read-start-requires : tie.Need-read-start-requires
 read-start-requires c κs = search needs
 
-start-left-requires : tie.Need-start-left-requires
-start-left-requires c κs = search needs
+call-started-requires : tie.Need-call-started-requires
+call-started-requires c κs = search needs
 
 returns : tie.Need-returns
 returns c =
@@ -34,7 +34,7 @@ returns c =
     let args = c8 .before .before .before .before .before .before .before .before .args in
     let front = c .before .before .before .front .ensures in
     let read-start = c .before .before .read-start .ensures in
-    c .start-left .ensures ∙ read-left (args .s) _ _ (args .b) _ _ _ _ front read-start
+    c .call-started .ensures ∙ read-started (args .s) _ _ (args .b) _ _ _ _ front read-start
 
 pub read-made-spec : {M : Type 1} → statement M
 read-made-spec =
@@ -47,5 +47,5 @@ read-made-spec =
     cast-front
     front-requires
     read-start-requires
-    start-left-requires
+    call-started-requires
     returns)

@@ -1,4 +1,4 @@
-use Rattle.exchange.proofs.Steps.{update-left}
+use Rattle.exchange.proofs.Steps.{update-started}
 use mathlib.Core.Path.{_∙_}
 use borrow.Author.Needs.{needs}
 use Rattle.exchange.proofs.user_step.update_made.Statement.{statement}
@@ -16,15 +16,15 @@ part-request-end c = c .before .before .before .before .before .before .before .
 update-start-requires : tie.Need-update-start-requires
 update-start-requires c κs = search needs
 
-start-left-requires : tie.Need-start-left-requires
-start-left-requires c κs = search needs
+call-started-requires : tie.Need-call-started-requires
+call-started-requires c κs = search needs
 
 returns : tie.Need-returns
 returns c =
     let c8 = c .before .before .before .before .before .before .before .before in
     let args = c8 .before .before .before .before .args in
     let update-start = c .before .before .update-start .ensures in
-    c .start-left .ensures ∙ update-left (args .s) _ _ (args .b) _ _ _ update-start
+    c .call-started .ensures ∙ update-started (args .s) _ _ (args .b) _ _ _ update-start
 
 pub update-made-spec : {M : Type 1} → statement M
 update-made-spec =
@@ -34,5 +34,5 @@ update-made-spec =
     part-request-start
     part-request-end
     update-start-requires
-    start-left-requires
+    call-started-requires
     returns)

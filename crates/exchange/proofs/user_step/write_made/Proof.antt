@@ -1,4 +1,4 @@
-use Rattle.exchange.proofs.Steps.{write-left}
+use Rattle.exchange.proofs.Steps.{write-started}
 use mathlib.Core.Path.{_∙_}
 use borrow.Author.Needs.{needs}
 use Rattle.exchange.proofs.user_step.write_made.Statement.{statement}
@@ -21,8 +21,8 @@ part-request-end c =
 write-start-requires : tie.Need-write-start-requires
 write-start-requires c κs = search needs
 
-start-left-requires : tie.Need-start-left-requires
-start-left-requires c κs = search needs
+call-started-requires : tie.Need-call-started-requires
+call-started-requires c κs = search needs
 
 returns : tie.Need-returns
 returns c =
@@ -30,7 +30,7 @@ returns c =
     let c16 = c8 .before .before .before .before .before .before .before .before in
     let args = c16 .before .before .before .args in
     let write-start = c .before .before .write-start .ensures in
-    c .start-left .ensures ∙ write-left (args .s) _ _ (args .b) _ _ _ _ _ _ write-start
+    c .call-started .ensures ∙ write-started (args .s) _ _ (args .b) _ _ _ _ _ _ write-start
 
 pub write-made-spec : {M : Type 1} → statement M
 write-made-spec =
@@ -41,5 +41,5 @@ write-made-spec =
     part-request-start
     part-request-end
     write-start-requires
-    start-left-requires
+    call-started-requires
     returns)
