@@ -4,8 +4,9 @@
 ghost use Prim.Native.Nat.{_≤_};
 use crate::step;
 use firing::segment;
-use frames::Frame;
 use sha256::bytes;
+use state_files::frames;
+use state_files::frames::Frame;
 
 // What stands for an answer's length where none came.
 pub const NONE: usize = 65536;

@@ -2,3 +2,4 @@
 pub mod Text
 pub mod Memory
 pub mod Examples
+pub mod Hexadecimal

@@ -1,4 +1,6 @@
-// Text as programs read it: lines, blanks and decimal numbers.
+// Text as programs read it: lines, blanks and decimal numbers; in `hex`, hexadecimal digits.
+pub mod hex;
+
 ghost use mathlib.Core.Bool.{cond};
 ghost use mathlib.Core.Path.{_≡_};
 ghost use Prim.Native.Nat.{_+_, _*_, _%_, _≤_};

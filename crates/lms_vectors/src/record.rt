@@ -47,9 +47,9 @@ pub fn fields(
     let one = bytes::front(&text, n);
     let two = after_line(one);
     Lengths {
-        first: hex::decode(line(one), first),
-        second: hex::decode(line(two), second),
-        third: hex::decode(line(after_line(two)), third),
+        first: lines::hex::decode(line(one), first),
+        second: lines::hex::decode(line(two), second),
+        third: lines::hex::decode(line(after_line(two)), third),
     }
 }
 

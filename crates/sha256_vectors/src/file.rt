@@ -57,7 +57,7 @@ fn line(text: &[u8]) {
     let name = bytes::front(text, n);
     let digits = bytes::from(bytes::from(text, n), 1);
     let mut space = [0u8; 6400];
-    let length = hex::decode(digits, &mut space);
+    let length = lines::hex::decode(digits, &mut space);
     let message = bytes::front(&space, length);
     report::text(name);
     report::digest(sha256::hash(message));

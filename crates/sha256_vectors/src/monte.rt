@@ -3,7 +3,7 @@ use crate::report;
 
 pub fn run() {
     let mut seed = [0u8; 32];
-    hex::decode(
+    lines::hex::decode(
         b"6d1e72ad03ddeb5de891e572e2396f8da015d899ef0e79503152d6010a3fe691",
         &mut seed,
     );

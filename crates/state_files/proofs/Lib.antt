@@ -4,3 +4,4 @@ pub mod Written
 pub mod Saved
 pub mod Older
 pub mod Paths
+pub mod Framed

@@ -4,3 +4,4 @@ pub mod Server
 pub mod Older
 pub mod Argument
 pub mod Path
+pub mod Frame

@@ -1,8 +1,8 @@
 use native.Mathlib.Omega.{arith}
-use Rattle.hex.specs.Digits.{digitValue}
-use Rattle.hex.proofs.Decoding.{within}
-use Rattle.hex.proofs.value.Statement.{statement}
-use Rattle.hex.proofs.value.Tie as tie
+use Rattle.lines.specs.Hexadecimal.{digitValue}
+use Rattle.lines.proofs.Decoding.{within}
+use Rattle.lines.proofs.hex.value.Statement.{statement}
+use Rattle.lines.proofs.hex.value.Tie as tie
 
 sub-result : tie.Need-sub-result
 sub-result c = omega (arith, within 48 57 (c .before .args .digit) (c .if1 .taken))

@@ -1,8 +1,8 @@
 -- A frame is laid by one copy of the length's two bytes and the message.
 use borrow.Author.Needs.{needs}
-use Rattle.frames.proofs.Frames.{no-frame, frame-laid}
-use Rattle.frames.proofs.lay.Statement.{statement}
-use Rattle.frames.proofs.lay.Tie as tie
+use Rattle.state_files.proofs.Framed.{no-frame, frame-laid}
+use Rattle.state_files.proofs.frames.lay.Statement.{statement}
+use Rattle.state_files.proofs.frames.lay.Tie as tie
 
 returns : tie.Need-returns
 returns c = no-frame _ _ (c .if1 .taken)

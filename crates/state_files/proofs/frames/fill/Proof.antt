@@ -2,10 +2,10 @@ use lib.Seq.{length-take-le}
 use native.Mathlib.Omega.{arith}
 use mathlib.Core.Path.{sym}
 use borrow.Author.Needs.{needs}
-use Rattle.frames.proofs.fill.Statement.{statement}
-use Rattle.frames.proofs.fill.Tie as tie
-use Rattle.frames.proofs.fill.Reads as reads
-use Rattle.frames.proofs.fill.Lts as lts
+use Rattle.state_files.proofs.frames.fill.Statement.{statement}
+use Rattle.state_files.proofs.frames.fill.Tie as tie
+use Rattle.state_files.proofs.frames.fill.Reads as reads
+use Rattle.state_files.proofs.frames.fill.Lts as lts
 use Rattle.io.proofs.read_full.Reads as read-full-reads
 
 -- src/lib.rt:29:9

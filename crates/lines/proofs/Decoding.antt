@@ -9,7 +9,7 @@ use lib.Dec.{leb}
 use lib.ListN.{length, drop, getD, set, length-append}
 use lib.Seq.{drop-cons, set-at}
 use borrow.Author.Tests.{leb-true}
-use Rattle.hex.specs.Digits.{digitValue, decoded}
+use Rattle.lines.specs.Hexadecimal.{digitValue, decoded}
 
 -- a number that is in a range
 and-true : (a b : Bool) → a && b ≡ true → (a ≡ true) × (b ≡ true)

@@ -1,13 +1,13 @@
 use borrow.Author.Needs.{needs}
-use Rattle.hex.proofs.Decoding.{decoded-more}
-use Rattle.hex.specs.Digits.{decoded}
+use Rattle.lines.proofs.Decoding.{decoded-more}
+use Rattle.lines.specs.Hexadecimal.{decoded}
 use lib.ListN.{length, drop, length-set}
 use native.Mathlib.Omega.{arith}
 use Prim.Native.Nat.{_≤_, _-_}
 use mathlib.Core.List.{_++_}
 use mathlib.Core.Path.{_≡_, refl}
-use Rattle.hex.proofs.decode.Statement.{statement}
-use Rattle.hex.proofs.decode.Tie as tie
+use Rattle.lines.proofs.hex.decode.Statement.{statement}
+use Rattle.lines.proofs.hex.decode.Tie as tie
 
 abbrev Inv-loop : tie.InvT-loop
 Inv-loop digits out₀ n i₀ out i = (i ≤ n) × ((length out ≡ length out₀) × (out ≡ decoded i digits ++ drop i out₀))

@@ -1,6 +1,6 @@
 // Messages on a stream of bytes: a frame is the message's length, 2 bytes, big-endian, and the message.
 ghost use mathlib.Core.Path.{_≡_};
-ghost use Rattle.frames.specs.Frame.{frameLength, framed};
+ghost use Rattle.state_files.specs.Frame.{frameLength, framed};
 use sha256::bytes;
 
 // What came from a stream: a whole message and its length, the stream's end, or the beginning of a frame and then the end.

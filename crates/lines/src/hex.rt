@@ -3,7 +3,7 @@ ghost use mathlib.Core.Path.{_≡_};
 ghost use mathlib.Core.List.{_++_};
 ghost use Prim.Native.Nat.{_/_, _<_, min};
 ghost use lib.ListN.{length, drop};
-ghost use Rattle.hex.specs.Digits.{digitValue, decoded};
+ghost use Rattle.lines.specs.Hexadecimal.{digitValue, decoded};
 
 // Puts the bytes that the digits stand for at the start of out, as many as fit, and answers their count.
 pub fn decode(digits: &[u8], out: &mut [u8]) -> usize

@@ -1,2 +1,0 @@
--- Laws of frames.
-pub mod Frames

@@ -1,2 +1,0 @@
--- Messages on a stream of bytes.
-pub mod Frame

@@ -1,2 +1,0 @@
--- Hexadecimal digits as bytes.
-pub mod Digits
