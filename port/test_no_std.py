@@ -68,7 +68,7 @@ class WholeLibrary(unittest.TestCase):
                 no_std.main([folder])
             exported = (Path(folder) / no_std.LIBRARY / "src" / "calls.rs").read_text()
         crates = no_std.needed_crates()
-        self.assertIn("15 crates with 23 exported functions, which are the header's", said.getvalue(), "what is written")
+        self.assertIn("17 crates with 23 exported functions, which are the header's", said.getvalue(), "what is written")
         for call in ("update", "write", "read", "give_up"):
             self.assertIn(f"user_{call}", crates, "the crate of a call")
             self.assertIn(f"fn kozbrax_{call}_start(\n        servers: u32,", exported, "what C calls to start it")
