@@ -1,8 +1,8 @@
 -- What a row of Table 1 gives, one argument for all widths: how wide, how many and where its digits are, and that the checksum is whole.
 use mathlib.Core.Path.{_≡_, _∙_, ap, sym}
 use mathlib.Core.List.{List, [], append-nil}
-use Prim.Native.Nat.{ℕ, zero, suc, _+_, _-_, _*_, _/_, _%_, _^_, _≤_, _<_}
-use native.Mathlib.Nat.{mod-eq-of-lt, mul-le-mul, mul-le-mul-left, mul-le-mul-right, le-div-iff-mul-le, mul-one, one-mul, suc-mul, le-refl}
+use Prim.Native.Nat.{ℕ, zero, suc, _-_, _*_, _/_, _%_, _^_, _≤_, _<_}
+use native.Mathlib.Nat.{mod-eq-of-lt, mul-le-mul, mul-le-mul-left, mul-le-mul-right, le-div-iff-mul-le, mul-one, suc-mul}
 use native.Mathlib.Omega.{arith}
 use lib.Pow.{pow-mono}
 use Rattle.sha256.specs.Bytes.{be, numberAt}
@@ -10,7 +10,7 @@ use Rattle.sha256.proofs.Cases.{cases-lt}
 use Rattle.sha256.proofs.Laws.{number-be}
 use Rattle.lms.specs.declared.Ots.{Ots}
 use Rattle.lms.specs.Inner.{Row}
-use Rattle.lms.specs.Ots.{coef, sumTo, Cksm}
+use Rattle.lms.specs.Ots.{sumTo, Cksm}
 
 module _ (o : Ots) (row : Row o) where
   pub width-most : o .w ≤ 8
@@ -36,8 +36,8 @@ module _ (o : Ots) (row : Row o) where
       let c : 1 ≤ 2 ^ o .w - 1 = omega arith in
       mul-le-mul a c
 
-  pub shift-most : o .ls < 16
-  shift-most =
+  pub ls-most : o .ls < 16
+  ls-most =
       let m : 1 * 2 ^ o .ls ≤ 256 / o .w * (2 ^ o .w - 1) * 2 ^ o .ls = mul-le-mul-right (2 ^ o .ls) sum-some in
       cases-lt (o .ls) 16 (λ g. g)
       (λ g. let b : 2 ^ 16 ≤ 2 ^ o .ls = pow-mono {i = 16} g in absurd (omega (arith, row .sum-fits)))

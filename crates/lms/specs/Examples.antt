@@ -53,7 +53,7 @@ signature-sizes : (signatures 5 ≡ 8684 ∷ 4460 ∷ 2348 ∷ 1292 ∷ []) × (
 unfolding signatures signatureSize otsOf lmsOf
 signature-sizes = (refl, refl)
 
--- A key of types 5 and 4, and one of types 6 and 3, which is document 01's: its tree has 65,504 bytes and makes 1,024 signatures.
+-- The front of a key of types 5 and 4, and of one of types 6 and 3, document 01's: a tree of 65,504 bytes and 1,024 signatures.
 key-5-4 : List ℕ
 key-5-4 = u32str 5 ++ u32str 4
 

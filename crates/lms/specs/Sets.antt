@@ -1,5 +1,5 @@
 -- Parameter sets by their types' numbers, and what a public key's types say (document 02, g).
-use mathlib.Core.Bool.{Bool, cond, _&&_, _||_}
+use mathlib.Core.Bool.{Bool, cond, _&&_}
 use mathlib.Core.List.{List}
 use Prim.Native.Nat.{ℕ, _^_}
 use lib.Dec.{leb, eqb}
@@ -15,7 +15,8 @@ use Rattle.lms.specs.Signature.{signatureSize}
 unfoldable pub otherType : ℕ → ℕ
 otherType t = cond (eqb t 0) 4294967295 0
 
--- RFC 8554, section 4.1: Table 1 by the type. Any other number has a row of another type, so that Algorithm 6 refuses a key that names it.
+-- RFC 8554, section 4.1: Table 1 by the type. Any other number has a row of another type, so that Algorithm 6 refuses a key that
+-- names it.
 unfoldable pub otsOf : ℕ → Ots
 otsOf t =
     cond (eqb t 1) LMOTS_SHA256_N32_W1

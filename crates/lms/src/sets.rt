@@ -53,7 +53,10 @@ pub fn lms(t: u32) -> Lms
     if t == 6 {
         return Lms { lmstype: 6, h: 10 };
     }
-    Lms { lmstype: other_type(t), h: 10 }
+    Lms {
+        lmstype: other_type(t),
+        h: 10,
+    }
 }
 
 // The bytes of a tree of height h.

@@ -1,4 +1,4 @@
-use Rattle.lms.proofs.Rows.{width-most, shift-most, checksum-fits, checksum-held}
+use Rattle.lms.proofs.Rows.{width-most, ls-most, checksum-fits, checksum-held}
 use mathlib.Core.Path.{_≡_, refl}
 use Prim.Native.Nat.{_≤_, _-_, _*_, _/_}
 use native.Mathlib.Nat.{div-le-self}
@@ -79,7 +79,7 @@ loop-again c =
     )
 
 shl-be2 : tie.Need-shl-be2 Inv-loop μ-loop
-shl-be2 c = let low = shift-most (c .before .before .before .args .o) (c .before .before .before .pre) in search needs
+shl-be2 c = let low = ls-most (c .before .before .before .args .o) (c .before .before .before .pre) in search needs
 
 cast-be2 : tie.Need-cast-be2 Inv-loop μ-loop
 cast-be2 c =
