@@ -105,8 +105,8 @@ pub fn sign(
     0
 }
 
-// The number that a signature used, or No wherever RFC 8554 says INVALID, under a key of these types and no other. For types 6 and 3
-// 1,062 - d compressions for 54 bytes of text, d the sum of the 67 digits.
+// The number that a signature used, or No wherever RFC 8554 says INVALID. A key of a set is taken under its own two types alone. For types
+// 6 and 3 1,062 - d compressions for 54 bytes of text, d the sum of the 67 digits.
 pub fn check(lmstype: u32, otstype: u32, key: &[u8], text: &[u8], signature: &[u8]) -> Checked
     ensures { λ r. ⌜ r ≡ checkOf (otsOf otstype) (lmsOf lmstype) (now (key .entry)) (now (text .entry)) (now (signature .entry)) ⌝ }
 {
