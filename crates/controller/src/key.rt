@@ -69,7 +69,7 @@ fn fill(key: &mut [u8]) -> bool {
     let id = identifier(key);
     let secret = seed(key);
     let mut tree = [0u8; 65504];
-    lms::generate(secret, id, &mut tree);
+    lms::generate(6, 3, secret, id, &mut tree);
     bytes::put(key, 80, &tree);
     slot::seal(key, b"");
     true
@@ -79,7 +79,7 @@ fn fill(key: &mut [u8]) -> bool {
 fn save_public(folder: &[u8], key: &[u8]) -> bool {
     let mut room = [0u8; 56];
     let public: &mut [u8] = &mut room;
-    lms::public_key(identifier(key), tree(key), public);
+    lms::public_key(6, 3, identifier(key), tree(key), public);
     file::replace(folder, b"public.new", b"public", public)
 }
 

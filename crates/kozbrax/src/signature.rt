@@ -13,7 +13,7 @@ pub extern "C" fn kozbrax_lms_generate(seed: &[u8; 32], id: &[u8; 16], tree: &mu
         × (now (tree .exit) ≡ generated LMOTS_SHA256_N32_W4 LMS_SHA256_M32_H10
         (now (id .entry)) (now (seed .entry)) (now (tree .entry))) ⌝ }
 {
-    lms::generate(*seed, *id, tree)
+    lms::generate(6, 3, *seed, *id, tree)
 }
 
 // The public key of 56 bytes out of the key's tree: 0, or 21 where `tree` or `key` is shorter.
@@ -23,7 +23,7 @@ pub extern "C" fn kozbrax_lms_public_key(id: &[u8; 16], tree: &[u8], key: &mut [
         × (now (key .exit) ≡ publicKeyWritten LMOTS_SHA256_N32_W4 LMS_SHA256_M32_H10
         (now (id .entry)) (now (tree .entry)) (now (key .entry))) ⌝ }
 {
-    lms::public_key(*id, tree, key)
+    lms::public_key(6, 3, *id, tree, key)
 }
 
 // The signature of a text with a number of the key: 0, 21 where `tree` or `signature` is shorter, 17 where the number is 1,024 or more.
@@ -42,7 +42,7 @@ pub extern "C" fn kozbrax_lms_sign(
         (now (id .entry)) (now (seed .entry)) number (now (randomizer .entry)) (now (text .entry))
         (now (tree .entry)) (now (signature .entry))) ⌝ }
 {
-    lms::sign(*seed, *id, number, *randomizer, text, tree, signature)
+    lms::sign(6, 3, *seed, *id, number, *randomizer, text, tree, signature)
 }
 
 // The number that a valid signature was made with, or 4294967295.
@@ -51,7 +51,7 @@ pub extern "C" fn kozbrax_lms_check(key: &[u8], text: &[u8], signature: &[u8]) -
     ensures { λ r. ⌜ r ≡ numberGiven (checkOf LMOTS_SHA256_N32_W4 LMS_SHA256_M32_H10
         (now (key .entry)) (now (text .entry)) (now (signature .entry))) ⌝ }
 {
-    let answer = lms::check(key, text, signature);
+    let answer = lms::check(6, 3, key, text, signature);
     match answer {
         Checked::Number(number) => number,
         Checked::No => 4294967295,

@@ -12,14 +12,9 @@ use borrow.Author.Tests.{eqb-true, ltb-true}
 use Rattle.sha256.specs.Bytes.{numberAt}
 use Rattle.lms.specs.declared.Ots.{Ots}
 use Rattle.lms.specs.declared.Lms.{Lms}
-use Rattle.lms.specs.Types.{LMOTS_SHA256_N32_W4}
-use Rattle.lms.specs.Inner.{OtsRow}
 use Rattle.lms.specs.Signature.{pathNode, signatureSize}
 use Rattle.lms.specs.Check.{above, climb, keyFits, typePlace, signatureFits}
 use Rattle.lms.proofs.Nodes.{path-node-in}
-
-pub w4-row : OtsRow LMOTS_SHA256_N32_W4
-w4-row = record { w-some = omega arith; w-most = omega arith; p-most = omega arith; ls-most = omega arith }
 
 pub climb-more : (I path t : List ℕ) (n i : ℕ) → climb I path n t (i + 1) ≡ above I (n / 2 ^ i) (climb I path n t i) (take 32 (drop (32 * i) path))
 unfolding climb
@@ -31,7 +26,7 @@ unfolding pathNode
 beside-in h q i leaf e few g = rw e (path-node-in h q few i g)
 
 -- both tests passed
-both : (a b : Bool) → (a && b) ≡ true → (a ≡ true) × (b ≡ true)
+pub both : (a b : Bool) → (a && b) ≡ true → (a ≡ true) × (b ≡ true)
 both true b e = (refl, e)
 both false b e = absurd (false≢true e)
 

@@ -42,14 +42,3 @@ coef-is s i w b h e = rw (power-held w h, e)
 pub sum-more : (w : ℕ) (s : List ℕ) (i : ℕ) → sumTo w s (i + 1) ≡ sumTo w s i + (2 ^ w - 1 - coef s i w)
 unfolding sumTo
 sum-more w s i = rw add-one
-
-shifted-most : (sum ls : ℕ) → sum ≤ 65280 → ls ≤ 7 → sum * 2 ^ ls ≤ 8355840
-shifted-most sum ls h g = mul-le-mul h (pow-mono {j = 7} g)
-
-pub sum-bytes : (sum ls : ℕ) → sum ≤ 65280 → ls ≤ 7 → be 2 (sum * 2 ^ ls % 18446744073709551616 % 65536) ≡ be 2 (sum * 2 ^ ls)
-unfolding be
-sum-bytes sum ls h g =
-    let m : sum * 2 ^ ls ≤ 8355840 = shifted-most sum ls h g in
-    let a : sum * 2 ^ ls % 18446744073709551616 % 65536 / 256 % 256 ≡ sum * 2 ^ ls / 256 % 256 = omega arith in
-    let b : sum * 2 ^ ls % 18446744073709551616 % 65536 / 1 % 256 ≡ sum * 2 ^ ls / 1 % 256 = omega arith in
-    rw (a, b)

@@ -9,3 +9,5 @@ pub mod Words
 pub mod Digits
 pub mod Growth
 pub mod Climbing
+pub mod Rows
+pub mod ByType

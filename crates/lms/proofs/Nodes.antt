@@ -34,6 +34,11 @@ pub node-whole : (tree : List ℕ) (h r : ℕ) → treeSize h ≤ length tree �
 unfolding nodeAt treeSize
 node-whole tree h r l lo hi = length-take-le 32 (drop (32 * (r - 1)) tree) (simp length-drop (omega arith))
 
+-- a tree has its root
+pub tree-some : (h n : ℕ) → treeSize h ≤ n → 32 ≤ n
+unfolding treeSize
+tree-some h n l = omega (arith, pow-suc 2 h, pow-pos h)
+
 module _ (o : Ots) (h : ℕ) (I SEED : List ℕ) where
   abbrev within : ℕ → ℕ → List ℕ
   within n r = nodeWithin n o h I SEED r

@@ -176,7 +176,7 @@ round-trip o l set I SEED C message rest q li lc few =
       eqs-refl (T o (l .h) I SEED 1),
     )
 
--- the set that the entry points fix is one of those
+-- document 01's set is one of those
 pub set-fits : Set LMOTS_SHA256_N32_W4 LMS_SHA256_M32_H10
 set-fits = record { ots-fits = omega arith; type-fits = omega arith; numbers-fit = omega arith }
 

@@ -1,14 +1,15 @@
 -- The RFC's own examples and tables, computed from the definitions.
 use mathlib.Core.Path.{_≡_, refl}
-use mathlib.Core.List.{List, [], _∷_}
+use mathlib.Core.List.{List, [], _∷_, _++_}
 use Prim.Native.Nat.{ℕ, _+_, _-_, _*_, _/_}
 use Rattle.lms.specs.Signature.{signatureSize}
 use Rattle.lms.specs.declared.Ots.{Ots}
 use Rattle.lms.specs.Types.{LMOTS_SHA256_N32_W1, LMOTS_SHA256_N32_W2, LMOTS_SHA256_N32_W4, LMOTS_SHA256_N32_W8}
-use Rattle.lms.specs.Types.{LMS_SHA256_M32_H5, LMS_SHA256_M32_H10}
+use Rattle.lms.specs.Types.{u32str}
 use Rattle.lms.specs.Ots.{coef, sumTo, Cksm, digit}
 use Rattle.lms.specs.Tree.{treeSize}
-use Rattle.sha256.specs.Bytes.{be}
+use Rattle.lms.specs.Sets.{otsOf, lmsOf, keyLmsType, keyOtsType, keySignatureSize, keyTreeSize, keyNumbers}
+use Rattle.sha256.specs.Bytes.{be, numberAt}
 
 -- Section 3.1.3: "if S is the string 0x1234, then coef(S, 7, 1) is 0 and coef(S, 0, 4) is 1".
 coef-of-1234 : (coef (0x12 ∷ 0x34 ∷ []) 7 1 ≡ 0) × (coef (0x12 ∷ 0x34 ∷ []) 0 4 ≡ 1)
@@ -42,13 +43,25 @@ last-digits-of-Q :
 unfolding Q digit Cksm sumTo coef be
 last-digits-of-Q = (refl, (refl, (refl, refl)))
 
--- Document 01: 2,508 bytes of a signature and 65,504 of a tree.
-sizes : (signatureSize LMOTS_SHA256_N32_W4 LMS_SHA256_M32_H10 ≡ 2508) × (treeSize 10 ≡ 65504)
-unfolding signatureSize treeSize
-sizes = (refl, refl)
+-- Document 02, g: a signature's bytes for widths 1, 2, 4 and 8, at height 5 and at height 10; document 01's is 2,508.
+signatures : ℕ → List ℕ
+signatures lmstype =
+    signatureSize (otsOf 1) (lmsOf lmstype) ∷ signatureSize (otsOf 2) (lmsOf lmstype) ∷ signatureSize (otsOf 3) (lmsOf lmstype)
+    ∷ signatureSize (otsOf 4) (lmsOf lmstype) ∷ []
 
--- The shortest and the longest signature of height 5 or 10.
-shortest-and-longest :
-    (signatureSize LMOTS_SHA256_N32_W8 LMS_SHA256_M32_H5 ≡ 1292) × (signatureSize LMOTS_SHA256_N32_W1 LMS_SHA256_M32_H10 ≡ 8844)
-unfolding signatureSize
-shortest-and-longest = (refl, refl)
+signature-sizes : (signatures 5 ≡ 8684 ∷ 4460 ∷ 2348 ∷ 1292 ∷ []) × (signatures 6 ≡ 8844 ∷ 4620 ∷ 2508 ∷ 1452 ∷ [])
+unfolding signatures signatureSize otsOf lmsOf
+signature-sizes = (refl, refl)
+
+-- The front of a key of types 5 and 4, and of one of types 6 and 3, document 01's: a tree of 65,504 bytes and 1,024 signatures.
+key-5-4 : List ℕ
+key-5-4 = u32str 5 ++ u32str 4
+
+key-6-3 : List ℕ
+key-6-3 = u32str 6 ++ u32str 3
+
+key-sizes :
+    ((keySignatureSize key-5-4 ≡ 1292) × ((keyTreeSize key-5-4 ≡ 2016) × (keyNumbers key-5-4 ≡ 32)))
+    × ((keySignatureSize key-6-3 ≡ 2508) × ((keyTreeSize key-6-3 ≡ 65504) × (keyNumbers key-6-3 ≡ 1024)))
+unfolding key-5-4 key-6-3 be numberAt keyLmsType keyOtsType keySignatureSize keyTreeSize keyNumbers signatureSize treeSize otsOf lmsOf
+key-sizes = ((refl, (refl, refl)), (refl, (refl, refl)))

@@ -5,6 +5,7 @@ pub mod Inner
 pub mod Ots
 pub mod Tree
 pub mod Signature
+pub mod Sets
 pub mod Check
 pub mod Calls
 pub mod Claims

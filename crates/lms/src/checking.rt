@@ -3,12 +3,13 @@ ghost use mathlib.Core.Path.{_≡_};
 ghost use mathlib.Core.Bool.{true};
 ghost use Prim.Native.Nat.{_≤_};
 ghost use lib.ListN.{length, take, drop};
-ghost use Rattle.lms.specs.Inner.{OtsRow};
+ghost use Rattle.lms.specs.Inner.{Row};
 ghost use Rattle.lms.specs.Check.{above as aboveOf, climb as climbOf, keyFits, signatureFits, rootOf, checkOf};
 use crate::Checked;
 use crate::Lms;
 use crate::Ots;
 use crate::onetime;
+use crate::sets;
 use crate::tree;
 use sha256::bytes;
 
@@ -52,12 +53,12 @@ pub fn key_fits(o: Ots, l: Lms, key: &[u8]) -> bool
 
 // Whether a signature is of the set's types, length and numbers.
 pub fn signature_fits(o: Ots, l: Lms, s: &[u8]) -> bool
-    requires { ⌜ OtsRow o × (l .h ≤ 25) ⌝ }
+    requires { ⌜ Row o × (l .h ≤ 25) ⌝ }
     ensures { λ r. ⌜ r ≡ signatureFits o l (now (s .entry)) ⌝ }
 {
     let p = o.p;
     let h = l.h;
-    if s.len() != 12 + 32 * (p + 1) + 32 * h {
+    if s.len() != sets::signature_size(o, l) {
         return false;
     }
     if bytes::u32_at(s, 4) != o.otstype {
@@ -81,7 +82,7 @@ fn id_of(key: &[u8]) -> [u8; 16]
 
 // The candidate root from a key and a signature that fit the set.
 fn root(o: Ots, l: Lms, key: &[u8], text: &[u8], s: &[u8]) -> [u8; 32]
-    requires { ⌜ OtsRow o × ((l .h ≤ 25) × ((keyFits o l (now key) ≡ true) × (signatureFits o l (now s) ≡ true))) ⌝ }
+    requires { ⌜ Row o × ((l .h ≤ 25) × ((keyFits o l (now key) ≡ true) × (signatureFits o l (now s) ≡ true))) ⌝ }
     ensures { λ r. ⌜ r ≡ rootOf o l (now (key .entry)) (now (text .entry)) (now (s .entry)) ⌝ }
 {
     let id = id_of(key);
@@ -102,7 +103,7 @@ fn root(o: Ots, l: Lms, key: &[u8], text: &[u8], s: &[u8]) -> [u8; 32]
 
 // The number that a valid signature used.
 pub fn check(o: Ots, l: Lms, key: &[u8], text: &[u8], s: &[u8]) -> Checked
-    requires { ⌜ OtsRow o × (l .h ≤ 25) ⌝ }
+    requires { ⌜ Row o × (l .h ≤ 25) ⌝ }
     ensures { λ r. ⌜ r ≡ checkOf o l (now (key .entry)) (now (text .entry)) (now (s .entry)) ⌝ }
 {
     if !key_fits(o, l, key) {

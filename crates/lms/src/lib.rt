@@ -1,12 +1,13 @@
-// LMS signatures with SHA-256, RFC 8554. What is below the entry points works for each width and height of the RFC's tables;
-// the entry points fix LMS_SHA256_M32_H10 (type 6) with LMOTS_SHA256_N32_W4 (type 3).
+// LMS signatures with SHA-256, RFC 8554. What is below the entry points works for each width and height of the RFC's tables. The entry
+// points take the two types that a public key names, the LMS type first; a pair that is no set acts by rows of types that no set has.
 ghost use mathlib.Core.Path.{_≡_};
-ghost use Rattle.lms.specs.Types.{LMOTS_SHA256_N32_W4, LMS_SHA256_M32_H10};
+ghost use Rattle.lms.specs.Sets.{otsOf, lmsOf};
 ghost use Rattle.lms.specs.Check.{checkOf, isValid as isValidOf};
 ghost use Rattle.lms.specs.Calls.{generateCode, generated, publicKeyCode, publicKeyWritten, signCode, signed};
 
 mod checking;
 mod onetime;
+mod sets;
 mod signing;
 mod tree;
 
@@ -33,59 +34,48 @@ pub enum Checked {
     Number(u32),
 }
 
-// The set that the entry points fix.
-fn w4() -> Ots
-    ensures { λ r. ⌜ r ≡ LMOTS_SHA256_N32_W4 ⌝ }
+// Fills the first bytes of a lent buffer with the key's tree, nodes 1 to 2^(h+1) - 1: 0; what follows stays. 21 where the buffer is
+// shorter, and nothing is written. The tree has 65,504 bytes for type 6; 1,135,614 compressions for types 6 and 3.
+pub fn generate(lmstype: u32, otstype: u32, seed: [u8; 32], id: [u8; 16], nodes: &mut [u8]) -> u32
+    ensures { λ r. ⌜ (r ≡ generateCode (lmsOf lmstype) (now (nodes .entry)))
+        × (now (nodes .exit) ≡ generated (otsOf otstype) (lmsOf lmstype) id seed (now (nodes .entry))) ⌝ }
 {
-    Ots {
-        otstype: 3,
-        w: 4,
-        p: 67,
-        ls: 4,
-    }
-}
-
-fn h10() -> Lms
-    ensures { λ r. ⌜ r ≡ LMS_SHA256_M32_H10 ⌝ }
-{
-    Lms { lmstype: 6, h: 10 }
-}
-
-// Fills the first 65,504 bytes of a lent buffer with the key's tree, nodes 1 to 2,047: 0; what follows stays.
-// 21 where the buffer is shorter, and nothing is written. 1,135,614 compressions.
-pub fn generate(seed: [u8; 32], id: [u8; 16], nodes: &mut [u8]) -> u32
-    ensures { λ r. ⌜ (r ≡ generateCode LMS_SHA256_M32_H10 (now (nodes .entry)))
-        × (now (nodes .exit) ≡ generated LMOTS_SHA256_N32_W4 LMS_SHA256_M32_H10 id seed (now (nodes .entry))) ⌝ }
-{
-    if nodes.len() < 65504 {
+    let l = sets::lms(lmstype);
+    let h = l.h;
+    if nodes.len() < sets::tree_size(h) {
         return 21;
     }
     let s = link::words(&seed);
-    tree::grow(w4(), 10, id, s, nodes);
+    tree::grow(sets::ots(otstype), h, id, s, nodes);
     0
 }
 
 // Writes the 56 bytes of the public key of a tree: 0; what follows stays. 21 where the tree or the place is short, and nothing is written.
-pub fn public_key(id: [u8; 16], nodes: &[u8], key: &mut [u8]) -> u32
-    ensures { λ r. ⌜ (r ≡ publicKeyCode LMS_SHA256_M32_H10 (now (nodes .entry)) (now (key .entry)))
-        × (now (key .exit) ≡ publicKeyWritten LMOTS_SHA256_N32_W4 LMS_SHA256_M32_H10 id (now (nodes .entry)) (now (key .entry))) ⌝ }
+pub fn public_key(lmstype: u32, otstype: u32, id: [u8; 16], nodes: &[u8], key: &mut [u8]) -> u32
+    ensures { λ r. ⌜ (r ≡ publicKeyCode (lmsOf lmstype) (now (nodes .entry)) (now (key .entry)))
+        × (now (key .exit) ≡ publicKeyWritten (otsOf otstype) (lmsOf lmstype) id (now (nodes .entry)) (now (key .entry))) ⌝ }
 {
-    if nodes.len() < 65504 {
+    let o = sets::ots(otstype);
+    let l = sets::lms(lmstype);
+    if nodes.len() < sets::tree_size(l.h) {
         return 21;
     }
     if key.len() < 56 {
         return 21;
     }
-    bytes::put(key, 0, &bytes::be4(6));
-    bytes::put(key, 4, &bytes::be4(3));
+    bytes::put(key, 0, &bytes::be4(l.lmstype));
+    bytes::put(key, 4, &bytes::be4(o.otstype));
     bytes::put(key, 8, &id);
     bytes::put(key, 24, bytes::front(nodes, 32));
     0
 }
 
-// Writes the 2,508 bytes of a text's signature straight into its place: 0; what follows stays. 21 where the tree or the place is short,
-// then 17 where the number is 1,024 or more, and nothing is written. 69 + d compressions for 54 bytes, d the sum of the 67 digits.
+// Writes a text's signature straight into its place: 0; what follows stays. 21 where the tree or the place is short, then 17 where the
+// number is 2^h or more, and nothing is written. The signature has 2,508 bytes for types 6 and 3, and takes 69 + d compressions for 54
+// bytes of text, d the sum of the 67 digits.
 pub fn sign(
+    lmstype: u32,
+    otstype: u32,
     seed: [u8; 32],
     id: [u8; 16],
     number: u32,
@@ -94,29 +84,33 @@ pub fn sign(
     nodes: &[u8],
     place: &mut [u8],
 ) -> u32
-    ensures { λ r. ⌜ (r ≡ signCode LMOTS_SHA256_N32_W4 LMS_SHA256_M32_H10 number (now (nodes .entry)) (now (place .entry)))
-        × (now (place .exit) ≡ signed LMOTS_SHA256_N32_W4 LMS_SHA256_M32_H10 id seed number randomizer
+    ensures { λ r. ⌜ (r ≡ signCode (otsOf otstype) (lmsOf lmstype) number (now (nodes .entry)) (now (place .entry)))
+        × (now (place .exit) ≡ signed (otsOf otstype) (lmsOf lmstype) id seed number randomizer
         (now (text .entry)) (now (nodes .entry)) (now (place .entry))) ⌝ }
 {
-    if nodes.len() < 65504 {
+    let o = sets::ots(otstype);
+    let l = sets::lms(lmstype);
+    let h = l.h;
+    if nodes.len() < sets::tree_size(h) {
         return 21;
     }
-    if place.len() < 2508 {
+    if place.len() < sets::signature_size(o, l) {
         return 21;
     }
-    if 1024 <= number {
+    if (1 << h) <= number {
         return 17;
     }
     let s = link::words(&seed);
-    signing::signature(w4(), h10(), id, s, number, randomizer, text, nodes, place);
+    signing::signature(o, l, id, s, number, randomizer, text, nodes, place);
     0
 }
 
-// The number that a signature used, or No wherever RFC 8554 says INVALID. 1,062 - d compressions for 54 bytes, d the sum of the 67 digits.
-pub fn check(key: &[u8], text: &[u8], signature: &[u8]) -> Checked
-    ensures { λ r. ⌜ r ≡ checkOf LMOTS_SHA256_N32_W4 LMS_SHA256_M32_H10 (now (key .entry)) (now (text .entry)) (now (signature .entry)) ⌝ }
+// The number that a signature used, or No wherever RFC 8554 says INVALID. A key of a set is taken under its own two types alone. For types
+// 6 and 3 1,062 - d compressions for 54 bytes of text, d the sum of the 67 digits.
+pub fn check(lmstype: u32, otstype: u32, key: &[u8], text: &[u8], signature: &[u8]) -> Checked
+    ensures { λ r. ⌜ r ≡ checkOf (otsOf otstype) (lmsOf lmstype) (now (key .entry)) (now (text .entry)) (now (signature .entry)) ⌝ }
 {
-    checking::check(w4(), h10(), key, text, signature)
+    checking::check(sets::ots(otstype), sets::lms(lmstype), key, text, signature)
 }
 
 // Whether a check answered with a number.

@@ -5,7 +5,7 @@ ghost use Prim.Native.Nat.{_+_, _-_, _*_, _^_, _≤_, _<_};
 ghost use lib.ListN.{length, take};
 ghost use Rattle.sha256.specs.Hash.{bytes as bytesOf};
 ghost use Rattle.lms.specs.Types.{prefix as prefixOf};
-ghost use Rattle.lms.specs.Inner.{OtsRow};
+ghost use Rattle.lms.specs.Inner.{Row};
 ghost use Rattle.lms.specs.Ots.{chain as chainOf, secret as secretOf, coef as coefOf, closed as closedOf, Cksm, endsHash, K, textHash};
 use crate::Ots;
 use sha256::bytes;
@@ -67,7 +67,7 @@ fn last(w: usize) -> usize
 
 // K of key q; `seed` is the seed's words.
 pub fn key(o: Ots, id: [u8; 16], seed: [u32; 8], q: u32) -> [u8; 32]
-    requires { ⌜ OtsRow o ⌝ }
+    requires { ⌜ Row o ⌝ }
     ensures { λ r. ⌜ r ≡ K o id (bytesOf seed) q ⌝ }
 {
     let p = o.p;
@@ -106,7 +106,7 @@ fn wide(x: u8) -> usize
 
 // Cksm of the text's hash s.
 fn checksum(o: Ots, s: [u8; 32]) -> [u8; 2]
-    requires { ⌜ OtsRow o ⌝ }
+    requires { ⌜ Row o ⌝ }
     ensures { λ r. ⌜ r ≡ Cksm o s ⌝ }
 {
     let w = o.w;
@@ -119,12 +119,12 @@ fn checksum(o: Ots, s: [u8; 32]) -> [u8; 2]
         sum += k - coef(&s, i, w);
         i += 1;
     }
-    bytes::be2(((sum << ls) % 65536) as u16)
+    bytes::be2((sum << ls) as u16)
 }
 
 // The text's hash s with its checksum, the string of the digits.
 pub fn summed(o: Ots, s: [u8; 32]) -> [u8; 34]
-    requires { ⌜ OtsRow o ⌝ }
+    requires { ⌜ Row o ⌝ }
     ensures { λ r. ⌜ r ≡ s ++ Cksm o s ⌝ }
 {
     let mut d = [0u8; 34];
@@ -143,7 +143,7 @@ fn closed(id: [u8; 16], q: u32, i: u16, a: usize, k: usize, y: &[u8]) -> [u8; 32
 
 // Kc from the text's hash t and the strings y[0] || .. || y[p-1] at the front of y.
 pub fn candidate(o: Ots, id: [u8; 16], q: u32, t: [u8; 32], y: &[u8]) -> [u8; 32]
-    requires { ⌜ OtsRow o × (32 * o .p ≤ length (now y)) ⌝ }
+    requires { ⌜ Row o × (32 * o .p ≤ length (now y)) ⌝ }
     ensures { λ r. ⌜ r ≡ endsHash o id q (closedOf o id q t (now (y .entry))) ⌝ }
 {
     let p = o.p;

@@ -5,7 +5,7 @@ ghost use lib.ListN.{length};
 ghost use Rattle.sha256.specs.Bytes.{written};
 ghost use Rattle.sha256.specs.Hash.{bytes as bytesOf};
 ghost use Rattle.lms.specs.Types.{cat};
-ghost use Rattle.lms.specs.Inner.{OtsRow};
+ghost use Rattle.lms.specs.Inner.{Row};
 ghost use Rattle.lms.specs.Ots.{opened};
 ghost use Rattle.lms.specs.Tree.{treeSize};
 ghost use Rattle.lms.specs.Signature.{path, signature as signatureOf, signatureSize};
@@ -25,7 +25,7 @@ fn write_chains(
     place: &mut [u8],
     at: usize,
 )
-    requires { ⌜ OtsRow o × (at + 32 * o .p ≤ length (now place)) ⌝ }
+    requires { ⌜ Row o × (at + 32 * o .p ≤ length (now place)) ⌝ }
     ensures { λ _. ⌜ now (place .exit) ≡ written (now (place .entry)) at (cat (opened o id (bytesOf seed) q t) (o .p)) ⌝ }
 {
     let p = o.p;
@@ -64,7 +64,7 @@ pub fn signature(
     tree: &[u8],
     place: &mut [u8],
 )
-    requires { ⌜ OtsRow o × ((l .h ≤ 25) × ((q < 2 ^ l .h) × ((treeSize (l .h) ≤ length (now tree))
+    requires { ⌜ Row o × ((l .h ≤ 25) × ((q < 2 ^ l .h) × ((treeSize (l .h) ≤ length (now tree))
         × (signatureSize o l ≤ length (now place))))) ⌝ }
     ensures { λ _. ⌜ now (place .exit)
         ≡ written (now (place .entry)) 0 (signatureOf o l id (bytesOf seed) q c (now (text .entry)) (now (tree .entry))) ⌝ }

@@ -4,7 +4,7 @@ ghost use Prim.Native.Nat.{suc, _+_, _*_, _^_, _≤_, _<_};
 ghost use lib.ListN.{length};
 ghost use Rattle.sha256.specs.Bytes.{written};
 ghost use Rattle.sha256.specs.Hash.{bytes as bytesOf};
-ghost use Rattle.lms.specs.Inner.{OtsRow};
+ghost use Rattle.lms.specs.Inner.{Row};
 ghost use Rattle.lms.specs.Tree.{leaf as leafOf, inner as innerOf, nodeOver, treeBytes, treeSize};
 ghost use Rattle.lms.specs.Signature.{nodeAt};
 use crate::Ots;
@@ -35,7 +35,7 @@ pub fn node_at(tree: &[u8], r: usize) -> &[u8]
 
 // Node r of a tree whose nodes past r are in place. A tree of height 25 has fewer than 2^26 nodes.
 fn node(o: Ots, h: usize, id: [u8; 16], seed: [u32; 8], r: usize, tree: &[u8]) -> [u8; 32]
-    requires { ⌜ OtsRow o × ((h ≤ 25) × ((0 < r) × ((r < 2 ^ suc h) × (r < 67108864)))) ⌝ }
+    requires { ⌜ Row o × ((h ≤ 25) × ((0 < r) × ((r < 2 ^ suc h) × (r < 67108864)))) ⌝ }
     ensures { λ x. ⌜ x ≡ nodeOver o h id (bytesOf seed) r (nodeAt (now (tree .entry)) (2 * r)) (nodeAt (now (tree .entry)) (2 * r + 1)) ⌝ }
 {
     let first = 1 << h;
@@ -47,7 +47,7 @@ fn node(o: Ots, h: usize, id: [u8; 16], seed: [u32; 8], r: usize, tree: &[u8]) -
 
 // All nodes of a tree of height h, from the last leaf to the root; what follows them in the buffer stays.
 pub fn grow(o: Ots, h: usize, id: [u8; 16], seed: [u32; 8], tree: &mut [u8])
-    requires { ⌜ OtsRow o × ((h ≤ 25) × (treeSize h ≤ length (now tree))) ⌝ }
+    requires { ⌜ Row o × ((h ≤ 25) × (treeSize h ≤ length (now tree))) ⌝ }
     ensures { λ _. ⌜ now (tree .exit) ≡ written (now (tree .entry)) 0 (treeBytes o h id (bytesOf seed)) ⌝ }
 {
     let mut r = (2 << h) - 1;

@@ -27,22 +27,28 @@ fn lengths(key: &[u8], text: &[u8], signature: &[u8]) {
     let s = bytes::front(signature, 2508);
     report::answer(
         b"key one byte short",
-        lms::check(bytes::front(key, 55), text, s),
+        lms::check(6, 3, bytes::front(key, 55), text, s),
     );
-    report::answer(b"key one byte long", lms::check(key, text, s));
-    report::answer(b"key empty", lms::check(bytes::front(key, 0), text, s));
+    report::answer(b"key one byte long", lms::check(6, 3, key, text, s));
+    report::answer(
+        b"key empty",
+        lms::check(6, 3, bytes::front(key, 0), text, s),
+    );
     report::answer(
         b"signature one byte short",
-        lms::check(k, text, bytes::front(signature, 2507)),
+        lms::check(6, 3, k, text, bytes::front(signature, 2507)),
     );
-    report::answer(b"signature one byte long", lms::check(k, text, signature));
+    report::answer(
+        b"signature one byte long",
+        lms::check(6, 3, k, text, signature),
+    );
     report::answer(
         b"signature empty",
-        lms::check(k, text, bytes::front(signature, 0)),
+        lms::check(6, 3, k, text, bytes::front(signature, 0)),
     );
     report::answer(
         b"text one byte short",
-        lms::check(k, bytes::from(text, 1), s),
+        lms::check(6, 3, k, bytes::from(text, 1), s),
     );
 }
 
@@ -81,7 +87,13 @@ fn other_fields(key: &[u8], text: &[u8], signature: &mut [u8]) {
 fn unchanged(key: &[u8], text: &[u8], signature: &[u8]) {
     report::answer(
         b"nothing changed",
-        lms::check(bytes::front(key, 56), text, bytes::front(signature, 2508)),
+        lms::check(
+            6,
+            3,
+            bytes::front(key, 56),
+            text,
+            bytes::front(signature, 2508),
+        ),
     );
 }
 
@@ -90,7 +102,13 @@ fn in_key(name: &[u8], key: &mut [u8], at: usize, text: &[u8], signature: &[u8])
     change(key, at);
     report::answer(
         name,
-        lms::check(bytes::front(key, 56), text, bytes::front(signature, 2508)),
+        lms::check(
+            6,
+            3,
+            bytes::front(key, 56),
+            text,
+            bytes::front(signature, 2508),
+        ),
     );
     change(key, at);
 }
@@ -100,7 +118,13 @@ fn in_signature(name: &[u8], key: &[u8], text: &[u8], signature: &mut [u8], at: 
     change(signature, at);
     report::answer(
         name,
-        lms::check(bytes::front(key, 56), text, bytes::front(signature, 2508)),
+        lms::check(
+            6,
+            3,
+            bytes::front(key, 56),
+            text,
+            bytes::front(signature, 2508),
+        ),
     );
     change(signature, at);
 }

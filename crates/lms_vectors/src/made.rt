@@ -20,7 +20,7 @@ pub fn run(name: &[u8], number: u32) {
     let mut nodes = io::large_buffer();
     let seed = k.seed;
     let id = k.id;
-    let code = lms::generate(seed, id, &mut nodes);
+    let code = lms::generate(6, 3, seed, id, &mut nodes);
     report::code(name, b" generate: ", code);
     sign_and_check(name, k, number, text, &nodes);
     refusals(name, k, number, text, &nodes);
@@ -50,13 +50,13 @@ fn message_of(name: &[u8], message: &mut [u8]) -> usize {
 fn sign_and_check(name: &[u8], k: Secrets, number: u32, text: &[u8], nodes: &[u8]) {
     let mut key = [0u8; 56];
     let id = k.id;
-    let code = lms::public_key(id, nodes, &mut key);
+    let code = lms::public_key(6, 3, id, nodes, &mut key);
     report::code(name, b" public key: ", code);
     report::figures(name, b" public key ", &key);
     let mut signature = [0u8; 2508];
     sign(name, b" sign: ", k, number, text, nodes, &mut signature);
     report::figures(name, b" signature ", &signature);
-    report::answer(name, lms::check(&key, text, &signature));
+    report::answer(name, lms::check(6, 3, &key, text, &signature));
 }
 
 // Signs, and prints the code.
@@ -72,7 +72,7 @@ fn sign(
     let seed = k.seed;
     let id = k.id;
     let randomizer = k.randomizer;
-    let code = lms::sign(seed, id, number, randomizer, text, nodes, out);
+    let code = lms::sign(6, 3, seed, id, number, randomizer, text, nodes, out);
     report::code(name, what, code);
 }
 
@@ -116,9 +116,9 @@ fn short_key(name: &[u8], k: Secrets, nodes: &[u8]) {
     let seed = k.seed;
     let id = k.id;
     let mut key = [0u8; 55];
-    let code = lms::public_key(id, nodes, &mut key);
+    let code = lms::public_key(6, 3, id, nodes, &mut key);
     report::code(name, b" public key into 55 bytes: ", code);
     let mut tree = [0u8; 65503];
-    let other = lms::generate(seed, id, &mut tree);
+    let other = lms::generate(6, 3, seed, id, &mut tree);
     report::code(name, b" generate into 65503 bytes: ", other);
 }

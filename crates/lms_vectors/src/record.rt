@@ -62,6 +62,8 @@ pub fn check(name: &[u8]) {
     report::answer(
         name,
         lms::check(
+            6,
+            3,
             bytes::front(&key, n.first),
             bytes::front(&message, n.third),
             bytes::front(&signature, n.second),

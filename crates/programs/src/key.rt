@@ -65,8 +65,8 @@ pub fn make(a: u8, keys: &mut [u8])
 {
     let mut tree = blank_tree();
     let mut public = blank_key();
-    lms::generate([a; 32], [a; 16], &mut tree);
-    lms::public_key([a; 16], &tree, &mut public);
+    lms::generate(6, 3, [a; 32], [a; 16], &mut tree);
+    lms::public_key(6, 3, [a; 16], &tree, &mut public);
     bytes::put(keys, 56 * before(a), &public);
     bytes::put(keys, tree_at(a), &tree);
 }

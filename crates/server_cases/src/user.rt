@@ -84,6 +84,8 @@ fn signed(f: [u32; 16], keys: &[u8]) -> [u8; 2540] {
     let randomizer = [(f[9] % 256) as u8; 32];
     let tree = key::tree_of(keys, name);
     lms::sign(
+        6,
+        3,
         [name; 32],
         [name; 16],
         f[9],

@@ -76,6 +76,8 @@ fn put_record(f: [u32; 16], p: u32, work: &[u8], d: &mut [u8]) {
     let text = message::signed_text(key::LOG, p, digest);
     let mut signature = [0u8; 2508];
     lms::sign(
+        6,
+        3,
         [a; 32],
         [a; 16],
         f[6],

@@ -1,27 +1,45 @@
-use mathlib.Core.Path.{refl, _∙_, ap}
-use native.Mathlib.Omega.{arith}
-use lib.Seq.{length-take-le}
-use lib.ListN.{length}
-use borrow.Author.Tests.{le-leb, lt-leb}
-use borrow.Author.Needs.{needs}
-use Rattle.lms.specs.Calls.{publicKeyCode, publicKeyWritten}
-use Rattle.lms.specs.Signature.{nodeAt}
-use Rattle.lms.specs.Types.{LMOTS_SHA256_N32_W4, LMS_SHA256_M32_H10}
-use Rattle.lms.specs.Tree.{treeSize}
+use Rattle.lms.proofs.Nodes.{tree-some}
 use Rattle.lms.proofs.Writing.{public-key-laid}
+use Rattle.lms.specs.Sets.{otsOf, lmsOf}
+use Rattle.lms.specs.Tree.{treeSize}
+use Rattle.lms.specs.Signature.{nodeAt}
+use Rattle.lms.specs.Calls.{publicKeyCode, publicKeyWritten}
+use borrow.Author.Tests.{le-leb, lt-leb}
+use lib.ListN.{length}
+use lib.Seq.{length-take-le}
+use Prim.Native.Nat.{_≤_}
+use mathlib.Core.Path.{refl, _∙_, ap}
+use Rattle.lms.proofs.ByType.{row-of, height-of}
+use borrow.Author.Needs.{needs}
 use Rattle.lms.proofs.public_key.Statement.{statement}
 use Rattle.lms.proofs.public_key.Tie as tie
 
+ots-requires : tie.Need-ots-requires
+ots-requires c κs = search needs
+
+lms-requires : tie.Need-lms-requires
+lms-requires c κs = search needs
+
+tree-size-requires : tie.Need-tree-size-requires
+tree-size-requires c κs = rw (c .lms .ensures) (height-of (c .before .before .before .before .args .lmstype))
+
 returns : tie.Need-returns
-unfolding publicKeyCode publicKeyWritten treeSize
-returns c = rw (lt-leb 65504 (length (c .before .before .before .args .nodes .now)) (c .if1 .taken)) (refl, refl)
+unfolding publicKeyCode publicKeyWritten
+returns c =
+    let args = c .before .before .before .before .before .before .args in
+    let the-lms = c .before .before .lms .ensures in
+    rw (lt-leb _ (length (args .nodes .now)) (rw (c .before .tree-size .ensures, the-lms) at (c .if1 .taken))) (refl, refl)
 
 returns-2 : tie.Need-returns-2
-unfolding publicKeyCode publicKeyWritten treeSize
+unfolding publicKeyCode publicKeyWritten
 returns-2 c =
-    let the-args = c .before .before .before .before .args in
-    rw (le-leb 65504 (length (the-args .nodes .now)) (c .before .if1 .left), lt-leb 56 (length (the-args .key .now)) (c .if2 .taken))
-    (refl, refl)
+    let args = c .before .before .before .before .before .before .before .args in
+    let the-lms = c .before .before .before .lms .ensures in
+    let tree-size = c .before .before .tree-size .ensures in
+    rw (
+      le-leb _ (length (args .nodes .now)) (rw (tree-size, the-lms) at (c .before .if1 .left)),
+      lt-leb 56 (length (args .key .now)) (c .if2 .taken),
+    ) (refl, refl)
 
 be4-requires : tie.Need-be4-requires
 be4-requires c κs = search needs
@@ -57,39 +75,40 @@ same-length : tie.Need-same-length
 same-length c = search needs
 
 returns-3 : tie.Need-returns-3
-unfolding publicKeyCode publicKeyWritten treeSize nodeAt
+unfolding publicKeyCode publicKeyWritten nodeAt
 returns-3 c =
     let c8 = c .before .before .before .before .before .before .before .before in
     let c16 = c8 .before .before .before .before .before .before .before .before in
     let c24 = c16 .before .before .before .before .before .before .before .before in
+    let good-1-1-0-1-0-1 = c24 .before .before .before .before .before .good .1 .1 .0 .1 .0 .1 in
+    let args = c24 .before .before .before .before .before .args in
+    let the-ots = c24 .before .before .ots .ensures in
+    let the-lms = c24 .before .lms .ensures in
+    let tree-size = c24 .tree-size .ensures in
+    let if1-left = c16 .before .before .before .before .before .before .before .if1 .left in
+    let if2-left = c16 .before .before .before .before .before .before .if2 .left in
+    let the-be4 = c16 .before .before .before .before .be4 .ensures in
+    let the-put = c16 .before .before .put .ensures in
+    let be42 = c8 .before .before .before .before .before .before .be42 .ensures in
+    let put2 = c8 .before .before .before .before .put2 .ensures in
+    let put3 = c .before .before .before .before .before .before .before .put3 .ensures in
+    let the-front = c .before .before .before .front .ensures in
     let put4 = c .before .before .put4 .ensures in
-    let the-good = c24 .before .before .good in
-    let a = c24 .before .before .args in
-    let the-be4 = c16 .before .before .before .before .be4 in
-    let the-put = c16 .before .before .put in
-    let the-be42 = c8 .before .before .before .before .before .before .be42 in
-    let the-put2 = c8 .before .before .before .before .put2 in
-    let the-put3 = c .before .before .before .before .before .before .before .put3 in
-    let the-if1 = c16 .before .before .before .before .before .before .before .if1 in
-    let the-if2 = c16 .before .before .before .before .before .before .if2 in
-    let the-front = c .before .before .before .front in
-    let top = ap length (the-front .ensures) ∙ length-take-le 32 (a .nodes .now) (omega (arith, the-if1 .left)) in
-    let laid = public-key-laid LMOTS_SHA256_N32_W4 LMS_SHA256_M32_H10 (a .key .now) (a .t1) _ _ _ _ _ _ _ (the-good .0 .1 .0 .1) top
-    (the-if2 .left) (the-be4 .ensures) (the-put .ensures) (the-be42 .ensures) (the-put2 .ensures) (the-put3 .ensures) put4 in rw (
-      le-leb
-          65504 (length (a .nodes .now)) (the-if1 .left),
-      le-leb 56 (length (a .key .now)) (the-if2 .left),
-      laid,
-      the-front .ensures,
-    ) (
-      refl,
-      refl,
-    )
+    let o = otsOf (args .otstype) in
+    let l = lmsOf (args .lmstype) in
+    let room : treeSize (l .h) ≤ length (args .nodes .now) = (rw (tree-size, the-lms) at if1-left) in
+    let top = ap length the-front ∙ length-take-le 32 (args .nodes .now) (tree-some (l .h) _ room) in
+    let laid = public-key-laid o l (args .key .now) (args .t3) _ _ _ _ _ _ _ good-1-1-0-1-0-1 top if2-left (the-be4 ∙ rw the-lms)
+    the-put (be42 ∙ rw the-ots) put2 put3 put4 in
+    rw (le-leb _ (length (args .nodes .now)) room, le-leb 56 (length (args .key .now)) if2-left, laid, the-front) (refl, refl)
 
 pub public-key-spec : {M : Type 1} → statement M
 public-key-spec =
     tie.close
     (tie.spec
+    ots-requires
+    lms-requires
+    tree-size-requires
     returns
     returns-2
     be4-requires

@@ -1,3 +1,4 @@
+use Rattle.lms.proofs.ByType.{ots-three, lms-six}
 use Rattle.kozbrax.specs.Lms.{numberGiven}
 use mathlib.Core.Path.{sym, ap, _∙_}
 use borrow.Author.Needs.{needs}
@@ -14,10 +15,10 @@ enum-told : tie.Need-enum-told
 enum-told c = search needs
 
 returns : tie.Need-returns
-returns c = sym (ap numberGiven (sym (c .before .before .before .check .ensures) ∙ c .before .answer .given .1))
+returns c = sym (ap numberGiven (sym (rw (ots-three, lms-six) at (c .before .before .before .check .ensures)) ∙ c .before .answer .given .1))
 
 returns-2 : tie.Need-returns-2
-returns-2 c = sym (ap numberGiven (sym (c .before .before .check .ensures) ∙ c .enum-told .given .1))
+returns-2 c = sym (ap numberGiven (sym (rw (ots-three, lms-six) at (c .before .before .check .ensures)) ∙ c .enum-told .given .1))
 
 pub kozbrax-lms-check-spec : {M : Type 1} → statement M
 kozbrax-lms-check-spec =

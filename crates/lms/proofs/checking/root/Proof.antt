@@ -1,3 +1,4 @@
+use Rattle.lms.proofs.Rows.{digits-most}
 use mathlib.Core.Path.{_≡_, ap}
 use Prim.Native.Nat.{_+_, _*_}
 use native.Mathlib.Omega.{arith}
@@ -63,13 +64,22 @@ candidate-requires c κs =
     )
 
 add-from : tie.Need-add-from
-add-from c = search needs
+add-from c =
+    let pre-0 = c .before .before .before .before .before .before .before .before .before .before .pre .0 in
+    let args = c .before .before .before .before .before .before .before .before .before .before .args in
+    let few = digits-most (args .o) pre-0 in search needs
 
 mul-from : tie.Need-mul-from
-mul-from c = search needs
+mul-from c =
+    let pre-0 = c .before .before .before .before .before .before .before .before .before .before .pre .0 in
+    let args = c .before .before .before .before .before .before .before .before .before .before .args in
+    let few = digits-most (args .o) pre-0 in search needs
 
 add-from-2 : tie.Need-add-from-2
-add-from-2 c = search needs
+add-from-2 c =
+    let pre-0 = c .before .before .before .before .before .before .before .before .before .before .pre .0 in
+    let args = c .before .before .before .before .before .before .before .before .before .before .args in
+    let few = digits-most (args .o) pre-0 in search needs
 
 from-requires-3 : tie.Need-from-requires-3
 from-requires-3 c κs = search needs

@@ -1,3 +1,4 @@
+use Rattle.lms.proofs.Rows.{width-most, digits-most}
 use mathlib.Core.List.{_++_, append-assoc, append-nil}
 use mathlib.Core.Path.{_≡_, ap}
 use Prim.Native.Nat.{_≤_, _-_, _*_}
@@ -21,7 +22,7 @@ abbrev μ-loop : tie.MeasureT-loop
 μ-loop id q y p w k d ends₀ i₀ ends i = p - i
 
 last-requires : tie.Need-last-requires Inv-loop μ-loop
-last-requires c κs = search needs
+last-requires c κs = width-most (c .before .args .o) (c .before .pre .0)
 
 summed-requires : tie.Need-summed-requires Inv-loop μ-loop
 summed-requires c κs = search needs
@@ -43,10 +44,16 @@ slice-aggregate-coef : tie.Need-slice-aggregate-coef Inv-loop μ-loop
 slice-aggregate-coef c = search needs
 
 coef-requires : tie.Need-coef-requires Inv-loop μ-loop
-coef-requires c κs = search needs
+coef-requires c κs =
+    let pre = c .before .before .before .before .before .before .before .before .before .pre in
+    let args = c .before .before .before .before .before .before .before .before .before .args in
+    (pre .0 .w-some, (width-most (args .o) (pre .0), omega (arith, digits-most (args .o) (pre .0), c .before .loop-test .taken)))
 
 cast-closed : tie.Need-cast-closed Inv-loop μ-loop
-cast-closed c = search needs
+cast-closed c =
+    let pre-0 = c .before .before .before .before .before .before .before .before .before .before .pre .0 in
+    let args = c .before .before .before .before .before .before .before .before .before .before .args in
+    let few = digits-most (args .o) pre-0 in search needs
 
 sub-closed : tie.Need-sub-closed Inv-loop μ-loop
 sub-closed c =
@@ -54,7 +61,7 @@ sub-closed c =
     let the-last = c .before .before .before .before .before .before .before .before .last in
     let the-summed = c .before .before .before .before .before .before .before .summed in
     let the-args = c .before .before .before .before .before .before .before .before .before .before .args in
-    let wide = power-most (the-args .o .w) (the-pre .0 .w-most) in
+    let wide = power-most (the-args .o .w) (width-most (the-args .o) (the-pre .0)) in
     let most = coef-most (the-summed .result) (c .before .before .before .loop .i) (the-args .o .w) in omega (
       arith,
       c .coef .ensures,
@@ -62,7 +69,10 @@ sub-closed c =
     )
 
 mul-from : tie.Need-mul-from Inv-loop μ-loop
-mul-from c = search needs
+mul-from c =
+    let pre-0 = c .before .before .before .before .before .before .before .before .before .before .pre .0 in
+    let args = c .before .before .before .before .before .before .before .before .before .before .args in
+    let few = digits-most (args .o) pre-0 in search needs
 
 from-requires : tie.Need-from-requires Inv-loop μ-loop
 from-requires c κs = search needs
@@ -74,7 +84,7 @@ closed-requires c κs =
     let the-summed = c .before .before .before .before .before .before .before .before .summed in
     let the-args = c .before .before .before .before .before .before .before .before .before .before .before .args in
     let the-loop = c .before .before .before .before .loop in
-    let wide = power-most (the-args .o .w) (the-pre .0 .w-most) in
+    let wide = power-most (the-args .o .w) (width-most (the-args .o) (the-pre .0)) in
     let most = coef-most (the-summed .result) (the-loop .i) (the-args .o .w) in (
       omega (arith, c .before .coef .ensures, the-last .ensures),
       omega
@@ -89,10 +99,11 @@ update-requires c κs = search needs
 
 add-i : tie.Need-add-i Inv-loop μ-loop
 add-i c =
-    let the-pre = c .before .before .before .before .before .before .before .before .before .before .before .before .before .before .pre in
-    let the-loop = c .before .before .before .before .before .before .before .loop in
-    let the-loop-test = c .before .before .before .before .before .before .loop-test in
-    omega (arith, the-loop .inv .0, the-loop-test .taken, the-pre .0 .p-most)
+    let pre-0 = c .before .before .before .before .before .before .before .before .before .before .before .before .before .before .pre .0 in
+    let args = c .before .before .before .before .before .before .before .before .before .before .before .before .before .before .args in
+    let loop-inv-0 = c .before .before .before .before .before .before .before .loop .inv .0 in
+    let loop-test-taken = c .before .before .before .before .before .before .loop-test .taken in
+    omega (arith, loop-inv-0, loop-test-taken, digits-most (args .o) pre-0)
 
 loop-less : tie.Need-loop-less Inv-loop μ-loop
 loop-less c = search needs

@@ -1,3 +1,4 @@
+use Rattle.lms.proofs.Rows.{width-most, digits-most}
 use mathlib.Core.Path.{_≡_}
 use mathlib.Core.List.{_++_, append-assoc, append-nil}
 use Prim.Native.Nat.{_≤_, _-_}
@@ -20,7 +21,7 @@ abbrev μ-loop : tie.MeasureT-loop
 μ-loop id seed q p k ends₀ i₀ ends i = p - i
 
 last-requires : tie.Need-last-requires Inv-loop μ-loop
-last-requires c κs = search needs
+last-requires c κs = width-most (c .args .o) (c .pre)
 
 prefix-requires : tie.Need-prefix-requires Inv-loop μ-loop
 prefix-requires c κs = search needs
@@ -36,14 +37,17 @@ unfolding cat
 loop-holds c = (search needs, rw (append-nil, ← c .before .before .prefix .ensures) (c .begin .ensures))
 
 cast-opened : tie.Need-cast-opened Inv-loop μ-loop
-cast-opened c = search needs
+cast-opened c =
+    let pre = c .before .before .before .before .before .before .pre in
+    let args = c .before .before .before .before .before .before .args in
+    let few = digits-most (args .o) pre in search needs
 
 opened-requires : tie.Need-opened-requires Inv-loop μ-loop
 opened-requires c κs =
-    let the-args = c .before .before .before .before .before .before .args in
-    let the-pre = c .before .before .before .before .before .before .pre in
-    let the-last = c .before .before .before .before .before .last in
-    omega (arith, power-most (the-args .o .w) (the-pre .w-most), the-last .ensures)
+    let pre = c .before .before .before .before .before .before .pre in
+    let args = c .before .before .before .before .before .before .args in
+    let last = c .before .before .before .before .before .last .ensures in
+    omega (arith, power-most (args .o .w) (width-most (args .o) pre), last)
 
 slice-aggregate-update : tie.Need-slice-aggregate-update Inv-loop μ-loop
 slice-aggregate-update c = search needs

@@ -1,3 +1,4 @@
+use Rattle.lms.proofs.Rows.{digits-most}
 use mathlib.Core.Path.{_≡_, _∙_, sym}
 use Prim.Native.Nat.{_+_, _*_}
 use native.Mathlib.Omega.{arith}
@@ -16,10 +17,10 @@ use Rattle.lms.proofs.signing.signature.Statement.{statement}
 use Rattle.lms.proofs.signing.signature.Tie as tie
 
 mul-end : tie.Need-mul-end
-mul-end c = search needs
+mul-end c = let few = digits-most (c .before .before .before .before .args .o) (c .before .before .before .before .pre .0) in search needs
 
 add-end : tie.Need-add-end
-add-end c = search needs
+add-end c = let few = digits-most (c .before .before .before .before .args .o) (c .before .before .before .before .pre .0) in search needs
 
 slice-aggregate-text-hash : tie.Need-slice-aggregate-text-hash
 slice-aggregate-text-hash c = search needs
@@ -76,11 +77,17 @@ put-requires-4 c κs = search needs
 
 add-write-path : tie.Need-add-write-path
 add-write-path c =
-    let c8 = c .before .before .before .before .before .before .before .before in
-    let c16 = c8 .before .before .before .before .before .before .before .before in
-    let c24 = c16 .before .before .before .before .before .before .before .before in
-    let c32 = c24 .before .before .before .before .before .before .before .before in
-    let the-pre = c32 .before .before .pre in omega (arith, the-pre .0 .p-most)
+    let pre-0
+    =
+    c .before .before .before .before .before .before .before .before .before .before .before .before .before .before .before .before
+    .before .before .before .before .before .before .before .before .before .before .before .before .before .before .before .before
+    .before .before .pre .0 in
+    let args
+    =
+    c .before .before .before .before .before .before .before .before .before .before .before .before .before .before .before .before
+    .before .before .before .before .before .before .before .before .before .before .before .before .before .before .before .before
+    .before .before .args in
+    omega (arith, digits-most (args .o) pre-0)
 
 write-path-requires : tie.Need-write-path-requires
 unfolding signatureSize

@@ -1,3 +1,4 @@
+use Rattle.lms.proofs.Rows.{width-most, digits-most}
 use mathlib.Core.Path.{_≡_, _∙_, sym, ap}
 use Prim.Native.Nat.{_≤_, _-_}
 use native.Mathlib.Omega.{arith}
@@ -31,24 +32,33 @@ loop-holds c =
     (search needs, sym (written-none (the-args .place .now) (the-args .at) (omega (arith, c .before .before .pre .1))))
 
 cast-opened : tie.Need-cast-opened Inv-loop μ-loop
-cast-opened c = search needs
+cast-opened c =
+    let pre-0 = c .before .before .before .before .pre .0 in
+    let args = c .before .before .before .before .args in
+    let few = digits-most (args .o) pre-0 in search needs
 
 slice-aggregate-coef : tie.Need-slice-aggregate-coef Inv-loop μ-loop
 slice-aggregate-coef c = search needs
 
 coef-requires : tie.Need-coef-requires Inv-loop μ-loop
-coef-requires c κs = search needs
+coef-requires c κs =
+    let pre = c .before .before .before .before .before .pre in
+    let args = c .before .before .before .before .before .args in
+    (pre .0 .w-some, (width-most (args .o) (pre .0), omega (arith, digits-most (args .o) (pre .0), c .before .loop-test .taken)))
 
 opened-requires : tie.Need-opened-requires Inv-loop μ-loop
 opened-requires c κs =
     let the-pre = c .before .before .before .before .before .before .pre in
     let the-summed = c .before .before .before .before .summed in
     let the-args = c .before .before .before .before .before .before .args in
-    let wide = power-most (the-args .o .w) (the-pre .0 .w-most) in
+    let wide = power-most (the-args .o .w) (width-most (the-args .o) (the-pre .0)) in
     let most = coef-most (the-summed .result) (c .before .before .before .loop .i) (the-args .o .w) in omega (arith, c .coef .ensures)
 
 mul-put : tie.Need-mul-put Inv-loop μ-loop
-mul-put c = search needs
+mul-put c =
+    let pre-0 = c .before .before .before .before .before .before .before .before .pre .0 in
+    let args = c .before .before .before .before .before .before .before .before .args in
+    let few = digits-most (args .o) pre-0 in search needs
 
 add-put : tie.Need-add-put Inv-loop μ-loop
 add-put c = search needs

@@ -1,3 +1,4 @@
+use Rattle.lms.proofs.ByType.{ots-three, lms-six}
 use Rattle.programs.specs.Key.{keysWith, treeOf, publicOf}
 use borrow.Author.Needs.{needs}
 use Rattle.programs.proofs.key.make.Statement.{statement}
@@ -61,7 +62,7 @@ returns c =
     let the-put = c8 .put .ensures in
     let tree-at = c .before .before .before .before .tree-at .ensures in
     let put2 = c .before .before .put2 .ensures in
-    rw (put2, tree-at, the-put, before2-0, public-key-1, generate-1, blank-key, blank-tree)
+    rw (put2, tree-at, the-put, before2-0, public-key-1, generate-1, blank-key, blank-tree, ots-three, lms-six)
 
 pub make-spec : {M : Type 1} → statement M
 make-spec =
