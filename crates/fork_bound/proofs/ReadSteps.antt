@@ -9,6 +9,7 @@ use lib.Dec.{eqb, leb}
 use lib.ListN.{length, take}
 use borrow.Author.Tests.{eqb-true, eqb-false, leb-true}
 use Rattle.tree.specs.Bytes.{written}
+use Rattle.tree.specs.Expr.{entryText}
 use Rattle.tree.specs.Setup.{firstCode, Settings}
 use Rattle.tree.proofs.Cases.{and-true}
 use Rattle.tree.proofs.Agree.{AllIn, Sized}
@@ -18,9 +19,10 @@ use Rattle.user.specs.declared.call.Kept.{Kept}
 use Rattle.user.specs.Asking.{userSetupChecks, requestRoom, refused, done, asking}
 use Rattle.user.specs.Outcome.{Lent, Outcome}
 use Rattle.user_read.specs.declared.call.Read.{Read}
-use Rattle.user_read.specs.Read.{readWant, readChecks, freshRead, readAsks, readStarted, heldText, textAuthor, textEntry, readNext, readCollected, readOver, readGives, readEnds, readTaken}
+use Rattle.user_read.specs.Read.{readWant, readChecks, freshRead, readAsks, readStarted, heldText, textAuthor, textEntry, textLeaf, readNext, readCollected, readOver, readGives, readEnds, readTaken}
 use Rattle.user.proofs.Passed.{setup-passed, by-cond}
 use Rattle.user_read.proofs.ReadRules.{by-taken, next, collected, next-small, handed, held-small, read-given}
+use Rattle.user_read.proofs.Texts.{author-low, author-of-text, entry-of-text}
 use Rattle.user_calls.specs.Calls.{reading, asCall}
 use Rattle.whole_run.specs.World.{settingsFor, User, sentBy, returned, viewAfter, newReads, after, readEvents}
 use Rattle.whole_run.proofs.Requests.{sent-kind, read-kind}
@@ -29,7 +31,7 @@ use Rattle.fork_bound.proofs.Histories.{Known}
 use Rattle.fork_bound.proofs.States.{ReadOk, UserOk}
 
 over-sized : (v : ℕ) (r : Read) (hashes held : List ℕ) → Sized (readOver v r hashes held)
-unfolding readOver Sized
+unfolding readOver textLeaf Sized
 over-sized v r hashes held = read-digest-sized (r .position) v hashes _ tt
 
 module _ (W : Whole) (own : ℕ) (u : User) (ok : UserOk W own u) where
@@ -53,15 +55,18 @@ module _ (W : Whole) (own : ℕ) (u : User) (ok : UserOk W own u) where
       → readGives k r hashes held ≡ true → AllIn (Hashed W) (readOver (k .version) r hashes held)
       → ReadOk W (k .version) (k .digest)
       (record { position = r .position; author = textAuthor (heldText r held); entry = textEntry (heldText r held) })
-  unfolding readOver
+  unfolding readOver textLeaf
   read-ok K k r hashes held some within e x =
+      let text = heldText r held in
+      let author = textAuthor text in
+      let entry = textEntry text in
       record {
         some = some;
         within = within;
         true-read = λ f h d.
-            let t = read-gives-leaf (Hashed W) (K .free) (r .position) (k .version) hashes (heldText r held) f some within x
+            let t = read-gives-leaf (Hashed W) (K .free) (r .position) (k .version) hashes (entryText author entry) f some within x
             (h .hashed (k .version) (omega arith) (omega arith)) (read-given k r hashes held e ∙ sym d) in
-            (ap textAuthor (sym t), ap textEntry (sym t));
+            (ap textAuthor (sym t) ∙ author-of-text author entry (author-low text), ap textEntry (sym t) ∙ entry-of-text author entry);
       }
 
   ends-ok : (m : Lent) (r : Read) → 1 ≤ r .position → r .position ≤ u .state .kept .version → r .length ≤ 1026 → 1024 ≤ length (m .entry)

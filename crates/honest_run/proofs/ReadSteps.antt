@@ -4,13 +4,11 @@ use mathlib.Core.Bool.{true, cond}
 use mathlib.Core.List.{List, [], _++_, append-nil, append-assoc}
 use Prim.Native.Nat.{ℕ, suc, _+_, _-_, _*_, _≤_, _<_}
 use native.Mathlib.Omega.{arith}
-use lib.ListN.{length, take, drop, getD}
-use lib.Seq.{drop-at}
+use lib.ListN.{length, take, getD}
 use borrow.Author.Tests.{eq-eqb, ne-eqb, le-leb, lt-leb, lt-ltb}
-use Rattle.sha256.specs.Bytes.{be}
-use Rattle.sha256.proofs.Laws.{be-length, number-be, eqs-refl}
+use Rattle.sha256.proofs.Laws.{eqs-refl}
 use Rattle.tree.specs.Bytes.{eqs, written}
-use Rattle.tree.specs.Expr.{entryText, leaf, value}
+use Rattle.tree.specs.Expr.{leaf, value}
 use Rattle.tree.specs.Tree.{leaves, digest}
 use Rattle.tree.specs.Cover.{at, piece}
 use Rattle.tree.specs.Read.{readNodes, readDigest}
@@ -24,8 +22,9 @@ use Rattle.user.specs.declared.call.Kept.{Kept}
 use Rattle.user.specs.Asking.{userSettingsFit, keptFits, userFits, userSetupChecks, requestRoom, ofNode, isAnswer}
 use Rattle.user.specs.Outcome.{State, Lent, withHashes, withHeld}
 use Rattle.user_read.specs.declared.call.Read.{Read}
-use Rattle.user_read.specs.Read.{readCount, readWant, readChecks, freshRead, readAsks, readEnds, readNext, readHeld, readHashes, heldText, textAuthor, textEntry, readOver, readGives, readEarly, readCollected, readStarted, readTaken}
+use Rattle.user_read.specs.Read.{readCount, readWant, readChecks, freshRead, readAsks, readEnds, readNext, readHeld, readHashes, heldText, textAuthor, textEntry, textLeaf, readOver, readGives, readEarly, readCollected, readStarted, readTaken}
 use Rattle.user_read.proofs.ReadRules.{handed}
+use Rattle.user_read.proofs.Texts.{author-of-text, entry-of-text}
 use Rattle.user_read.proofs.Reading.{want-operation, want-node}
 use Rattle.honest_run.specs.Claim.{ValidMemory}
 use Rattle.honest_run.specs.Network.{HonestSetup, publicTo, settingsIn}
@@ -200,29 +199,35 @@ module _ (c : HonestSetup) (L : ℕ → Item) (w g a i : ℕ) (σ : State) (m : 
   unfolding readNext
   next-ok = record { position = ok .position; text = λ _. next-text; hashes-right = next-hashes }
 
+  -- the author of that text, and behind it the entry
+  text-author : textAuthor (heldText next-read (lent .held)) ≡ L (i - 1) .author
+  text-author =
+      let low = item .listed in
+      let few = group .few in
+      let count = fit .counted in
+      ap textAuthor next-text ∙ author-of-text (L (i - 1) .author) (L (i - 1) .entry) (omega arith)
+
+  text-entry : textEntry (heldText next-read (lent .held)) ≡ L (i - 1) .entry
+  text-entry = ap textEntry next-text ∙ entry-of-text (L (i - 1) .author) (L (i - 1) .entry)
+
+  text-leaf : textLeaf (heldText next-read (lent .held)) ≡ leaf (texts L (i - 1))
+  unfolding textLeaf
+  text-leaf = rw (text-author, text-entry)
+
   -- 23: at the last answer the Read gives the digest that is kept
   gives : suc (r .answers) ≡ readCount i v → readGives k next-read (lent .hashes) (lent .held) ≡ true
   unfolding readGives readOver readCount readNext digest
   gives e =
       let all : TrueReads (leaves (texts L)) (readNodes i v) (lent .hashes) = λ j h. next-hashes j (omega arith) in
-      let same : value (leaf (heldText next-read (lent .held))) ≡ value (leaf (texts L (i - 1))) = ap (λ (t : List ℕ). value (leaf t)) next-text in
-      let d = true-read-gives-digest i v (leaves (texts L)) (lent .hashes) (leaf (heldText next-read (lent .held))) one iv same all in
-      ap (λ p. eqs (value (readDigest p v (lent .hashes) (leaf (heldText next-read (lent .held))))) (k .digest)) (ok .position)
+      let own = textLeaf (heldText next-read (lent .held)) in
+      let d = true-read-gives-digest i v (leaves (texts L)) (lent .hashes) own one iv (ap value text-leaf) all in
+      ap (λ p. eqs (value (readDigest p v (lent .hashes) own)) (k .digest)) (ok .position)
       ∙ ap (λ (x : List ℕ). eqs x (k .digest)) (d ∙ sym (fit .digest-ok (omega arith))) ∙ eqs-refl (k .digest)
 
   -- the author that a Read ends with
   found-author : readEnds σ lent next-read .found .author ≡ L (i - 1) .author
-  unfolding readEnds textAuthor entryText
-  found-author =
-      let low = item .listed in
-      let few = group .few in
-      let count = fit .counted in
-      rw next-text (number-be 2 (L (i - 1) .author) (L (i - 1) .entry) (omega arith))
-
-  -- behind the author stands the entry
-  text-entry : textEntry (heldText next-read (lent .held)) ≡ L (i - 1) .entry
-  unfolding textEntry entryText
-  text-entry = ap (drop 2) next-text ∙ drop-at (be 2 (L (i - 1) .author)) (L (i - 1) .entry) 2 (be-length 2 (L (i - 1) .author))
+  unfolding readEnds
+  found-author = text-author
 
   -- the entry buffer begins with it
   found-entry : take (readEnds σ lent next-read .found .length) (readEnds σ lent next-read .lent .entry) ≡ L (i - 1) .entry
