@@ -19,7 +19,7 @@ use Rattle.tree.specs.Cover.{piece}
 use Rattle.tree.proofs.Cases.{by-eqb, and-true}
 use Rattle.tree.proofs.Messages.{be-one, number-elements, three-parts}
 use Rattle.tree.specs.Setup.{Settings, settings, inLog, firstCode}
-use Rattle.user_list.specs.Users.{userCount, groupFits}
+use Rattle.user_list.specs.Users.{userCount, groupFits, leastAnswer}
 use Rattle.tree.specs.Inner.{settingsOf}
 use Rattle.server.specs.declared.Head.{Head}
 use Rattle.server.specs.declared.Earlier.{Earlier}
@@ -236,7 +236,7 @@ module _ {servers own : ℕ} {log users head store : List ℕ} {used : ℕ} {q a
       record { result = f .0; stored = f .1 .0; answered = f .1 .1 }
 
   module _ (e : Called servers own log users head store used q answer out s a) where
-    pub answer-small : out .answered ≤ 2552
+    pub answer-small : out .answered ≤ leastAnswer
     answer-small = rw (e .result) (answer-at-most-2552 (settings servers own log users) (headOf head) store used q answer)
 
     -- so the call over bytes leaves what its definition says

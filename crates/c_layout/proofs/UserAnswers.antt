@@ -12,6 +12,7 @@ use Rattle.tree.specs.Setup.{Settings, settings, on, firstCode}
 use Rattle.tree.specs.Inner.{settingsOf}
 use Rattle.tree.proofs.Cases.{by-bool, and-true}
 use Rattle.tree.proofs.CheckLists.{code-then}
+use Rattle.user_list.specs.Users.{leastRequest}
 use Rattle.user.specs.declared.call.Kept.{Kept}
 use Rattle.user.specs.declared.call.Step.{Step}
 use Rattle.user_update.specs.declared.call.Update.{Update}
@@ -61,11 +62,11 @@ refused-10 : firstCode (on 10 false ∷ []) ≡ 10
 unfolding firstCode
 refused-10 = refl
 
-stray-coded : (s : Settings) (σ : State) (m : Lent) (room z : Bool) (setup code : ℕ) → room ≡ leb 2566 (length (m .request))
+stray-coded : (s : Settings) (σ : State) (m : Lent) (room z : Bool) (setup code : ℕ) → room ≡ leb leastRequest (length (m .request))
     → setup ≡ firstCode (userSetupChecks s (σ .kept) room) → z ≡ eqb setup 0 → code ≡ cond z 10 setup → code ≡ strayCode s σ m
 unfolding strayCode requestRoom
 stray-coded s σ m room z setup code eo es ez ec =
-    let x = leb 2566 (length (m .request)) in
+    let x = leb leastRequest (length (m .request)) in
     let checks = userSetupChecks s (σ .kept) x in
     let joined : firstCode (checks ++ (on 10 false ∷ [])) ≡ cond (eqb (firstCode checks) 0) 10 (firstCode checks) =
     code-then checks (on 10 false ∷ []) (setup-coded s (σ .kept) x) ∙ ap (λ (y : ℕ). cond (eqb (firstCode checks) 0) y (firstCode checks)) refused-10 in
@@ -143,7 +144,7 @@ module _ (s : Settings) (a kept path signature call hashes held request entry : 
             (sym (same .hashes)) (sym (same .held)) (f .1) (sym (same .entry)),
       )
 
-  pub stray-answered : (room z : Bool) (setup code : ℕ) (step : Step) → room ≡ leb 2566 (length request) → setup ≡ firstCode (userSetupChecks s k room)
+  pub stray-answered : (room z : Bool) (setup code : ℕ) (step : Step) → room ≡ leb leastRequest (length request) → setup ≡ firstCode (userSetupChecks s k room)
       → z ≡ eqb setup 0 → code ≡ cond z 10 setup → step ≡ refused code a → r ≡ askedOf step nothing
       → UserYields (answeredBy s before key idle a) r before
   unfolding answeredBy userLeft stepped taken keptBy refused

@@ -6,6 +6,7 @@ use Prim.Native.Nat.{ℕ}
 use lib.Dec.{eqb}
 use lib.ListN.{length, replicate}
 use Rattle.tree.specs.Setup.{Settings}
+use Rattle.user_list.specs.Users.{longestSignature}
 use Rattle.user.specs.declared.call.Step.{Step}
 use Rattle.user.specs.declared.call.Found.{Found}
 use Rattle.user.specs.Outcome.{Key, keyOf, Lent, Outcome}
@@ -99,7 +100,7 @@ pub record NewBytes : Type 0 where
   pub signature : ℕ → List ℕ
   pub store : ℕ → List ℕ
   pub path-size : (a : ℕ) → length (path a) ≡ 672
-  pub signature-size : (a : ℕ) → length (signature a) ≡ 2508
+  pub signature-size : (a : ℕ) → length (signature a) ≡ longestSignature
 
 unfoldable pub newUserBytes : NewBytes → ℕ → UserBytes
 newUserBytes b a =

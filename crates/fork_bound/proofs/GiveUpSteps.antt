@@ -10,6 +10,7 @@ use Rattle.tree.specs.Level.{lg}
 use Rattle.tree.specs.Setup.{Settings}
 use Rattle.tree.proofs.Cases.{not-both}
 use Rattle.tree.proofs.Pieces.{piece-length}
+use Rattle.user_list.specs.Users.{leastRequest}
 use Rattle.user.specs.declared.call.Kept.{Kept}
 use Rattle.user.specs.declared.call.Progress.{Progress}
 use Rattle.user.specs.Asking.{requestRoom, refused, done, asking}
@@ -63,7 +64,7 @@ module _ (W : Whole) (own : ℕ) (u : User) (ok : UserOk W own u) where
       let p : ℕ = suc (σ .kept .version) in
       let small = ok .state .small in
       let size = piece-length (σ .path) (lg p) in
-      let long = leb-true 2566 (length (m .request)) room in
+      let long = leb-true leastRequest (length (m .request)) room in
       let at-p = sent-position s (giveUpWant (W .group .servers) k) (pathDigest p (σ .path)) (m .request) (W .named) (omega arith) (omega arith) in
       record { seen = ok .seen; state = state-on g; call = (at-p, plain); out = λ _. tt }
 

@@ -15,6 +15,7 @@ use Rattle.tree.proofs.Cases.{and-true}
 use Rattle.tree.proofs.Agree.{AllIn, Sized}
 use Rattle.tree.proofs.Cuts.{read-digest-sized}
 use Rattle.tree.proofs.ReadLaws.{read-gives-leaf}
+use Rattle.user_list.specs.Users.{leastRequest}
 use Rattle.user.specs.declared.call.Kept.{Kept}
 use Rattle.user.specs.Asking.{userSetupChecks, requestRoom, refused, done, asking}
 use Rattle.user.specs.Outcome.{Lent, Outcome}
@@ -45,7 +46,7 @@ module _ (W : Whole) (own : ℕ) (u : User) (ok : UserOk W own u) where
       → UserOk W own (after u (asCall reading (readAsks s (u .state) m r)))
   unfolding after readAsks asking returned viewAfter newReads sentBy requestRoom
   asks-ok m r room h =
-      let n = leb-true 2566 (length (m .request)) room in
+      let n = leb-true leastRequest (length (m .request)) room in
       let pull = read-kind (W .group .servers) (u .state .kept .version) r in
       let sent = sent-kind s (readWant (W .group .servers) (u .state .kept .version) r) [] (m .request) (W .named) (omega arith) (omega arith) in
       record { seen = ok .seen; state = ok .state; call = h; out = λ e. absurd (omega arith) }

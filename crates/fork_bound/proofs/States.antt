@@ -13,6 +13,7 @@ use Rattle.tree.specs.Cover.{coverDigest}
 use Rattle.tree.specs.Message.{request, requestKind, requestPosition}
 use Rattle.tree.proofs.Agree.{AllIn}
 use Rattle.tree.proofs.Covers.{cover-gives-digest}
+use Rattle.user_list.specs.Users.{longestSignature}
 use Rattle.user.specs.Outcome.{State}
 use Rattle.user_update.specs.declared.call.Update.{Update}
 use Rattle.user_update.proofs.UpdateRules.{Above}
@@ -94,7 +95,7 @@ module _ (W : Whole) (own : ℕ) where
   pub record StateOk (σ : State) (rs : List Reading) : Type 0 where
     pub small : σ .kept .version ≤ 1048576
     pub room : length (σ .path) ≡ 672
-    pub sized : length (σ .signature) ≡ 2508
+    pub sized : length (σ .signature) ≡ longestSignature
     pub kept : 0 < σ .kept .version → SignedAt W (σ .kept .version) (σ .kept .digest)
     pub open-write : σ .kept .opened ≡ true → OpenOk σ
     pub reads : Known W → ReadsOk W (σ .kept .version) (σ .kept .digest) rs

@@ -16,6 +16,7 @@ use Rattle.tree.proofs.Cases.{cases-eq, cases-le, positive, not-both}
 use Rattle.tree.proofs.Agree.{AllIn}
 use Rattle.tree.proofs.Cuts.{cover-digest-sized}
 use Rattle.tree.proofs.Tiles.{cover-some}
+use Rattle.user_list.specs.Users.{leastRequest}
 use Rattle.user.specs.declared.call.Kept.{Kept}
 use Rattle.user.specs.Asking.{requestRoom, refused, done, asking}
 use Rattle.user.specs.Outcome.{State, withKept, Lent, withHashes, Outcome}
@@ -62,7 +63,7 @@ module _ (W : Whole) (own : ℕ) where
   unfolding asking sentBy requestRoom
   pulls σ m c room =
       let small = update-kind n (σ .kept .version) c in
-      let r = leb-true 2566 (length (m .request)) room in
+      let r = leb-true leastRequest (length (m .request)) room in
       let sent = sent-kind s (updateWant n (σ .kept .version) c) [] (m .request) (W .named) (omega arith) (omega arith) in
       omega arith
 

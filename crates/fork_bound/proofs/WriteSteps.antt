@@ -11,6 +11,7 @@ use Rattle.tree.specs.Message.{request, requestKind, requestPosition, signedTex
 use Rattle.tree.specs.Setup.{Settings, firstCode}
 use Rattle.tree.proofs.Cases.{by-eqb, not-both}
 use Rattle.tree.proofs.CheckLists.{check-passes}
+use Rattle.user_list.specs.Users.{leastRequest, longestSignature}
 use Rattle.user.specs.Asking.{userSetupChecks, requestRoom, ofNode, refused, done, asking}
 use Rattle.user.specs.declared.call.Kept.{Kept}
 use Rattle.user.specs.Outcome.{State, withKept, Lent, Outcome, nothing, ending}
@@ -68,7 +69,7 @@ module _ (W : Whole) (own : ℕ) (u : User) where
       let small = i .small in
       let want = writeWant (s .servers) p (w .answers) in
       let body = writeBody p (w .answers) (σ .path) (heldEntry w (m .held)) (σ .signature) in
-      let r = leb-true 2566 (length (m .request)) room in
+      let r = leb-true leastRequest (length (m .request)) room in
       let b = body-short p (w .answers) w σ (m .held) short (i .sized) in
       let at-p = sent-position s want body (m .request) (W .named) (omega arith) (omega arith) in
       let of-kind = sent-kind s want body (m .request) (W .named) (omega arith) (omega (arith, write-kind p (w .answers))) in
@@ -122,7 +123,7 @@ module _ (W : Whole) (own : ℕ) (u : User) where
           either-way false = refl
 
     -- 21 leaves the key its tree, 17 a number
-    signature-stays-sized : firstCode (writeChecks s (σ .kept) (u .lent) w a) ≡ 0 → length (writeSignature s σ (u .lent .key) w) ≡ 2508
+    signature-stays-sized : firstCode (writeChecks s (σ .kept) (u .lent) w a) ≡ 0 → length (writeSignature s σ (u .lent .key) w) ≡ longestSignature
     unfolding writeChecks userSetupChecks
     signature-stays-sized z =
         let first = setup-passed s (σ .kept) (writeRoom (u .lent .key) (u .lent .request)) _ z in

@@ -17,6 +17,7 @@ use Rattle.tree.specs.Message as Me
 use Rattle.tree.specs.Setup as Se
 use Rattle.lms.specs.Signature as Si
 use Rattle.user_list.specs.Users as Us
+use Rattle.user_list.specs.Users.{leastAnswer, leastRequest, longestSignature, longestTree}
 use Rattle.sha256.specs.Bytes as By
 use Rattle.user.specs.Asking as As
 use Rattle.user.specs.Outcome as Ou
@@ -39,8 +40,8 @@ group = record { servers = 2; log = replicate 16 7; users = replicate 56 0 }
 
 abbrev memory : Ou.Lent
 memory =
-    Ou.lentOf (replicate 1248 0) (replicate 1026 0) (replicate 2566 0) (replicate 1024 0)
-    (Ou.keyOf (replicate 16 0) (replicate 32 0) (replicate 65504 0))
+    Ou.lentOf (replicate 1248 0) (replicate 1026 0) (replicate leastRequest 0) (replicate 1024 0)
+    (Ou.keyOf (replicate 16 0) (replicate 32 0) (replicate longestTree 0))
 
 -- The answer of a server to a Status, its head being (0, 0), and server 1's answer to the Reserve of (1, 0).
 abbrev pub fresh : ℕ → List ℕ
@@ -56,7 +57,7 @@ zeros-first =
       users = λ a. record {
         digest = replicate 32 0;
         path = replicate 672 0;
-        signature = replicate 2508 0;
+        signature = replicate longestSignature 0;
         path-size = refl;
         signature-size = refl;
       };
@@ -74,7 +75,7 @@ abbrev pub asks-server-1 : List Ru.Step
 asks-server-1 = Ru.user 1 (Ca.startWrite memory (1 ∷ 65 ∷ []) (replicate 32 0)) ∷ []
 
 abbrev pub server-1-answers : List Ru.Step
-server-1-answers = Ru.server 1 (out asks-server-1) (replicate 2552 0) ∷ asks-server-1
+server-1-answers = Ru.server 1 (out asks-server-1) (replicate leastAnswer 0) ∷ asks-server-1
 
 abbrev pub asks-server-2 : List Ru.Step
 asks-server-2 = Ru.user 1 (Ca.answer (fresh 1)) ∷ server-1-answers
@@ -83,7 +84,7 @@ abbrev pub reserves : List Ru.Step
 reserves = Ru.user 1 (Ca.answer (fresh 2)) ∷ asks-server-2
 
 abbrev pub server-1-reserves : List Ru.Step
-server-1-reserves = Ru.server 1 (out reserves) (replicate 2552 0) ∷ reserves
+server-1-reserves = Ru.server 1 (out reserves) (replicate leastAnswer 0) ∷ reserves
 
 abbrev puts : List Ru.Step
 puts = Ru.user 1 (Ca.answer reserved) ∷ server-1-reserves
@@ -94,7 +95,7 @@ abbrev pub gives-up : List Ru.Step
 gives-up = Ru.user 1 (Ca.startGiveUp memory) ∷ server-1-reserves
 
 abbrev pub server-1-gives-up : List Ru.Step
-server-1-gives-up = Ru.server 1 (out gives-up) (replicate 2552 0) ∷ gives-up
+server-1-gives-up = Ru.server 1 (out gives-up) (replicate leastAnswer 0) ∷ gives-up
 
 abbrev pub given-up : List ℕ
 given-up = 75 ∷ 65 ∷ 9 ∷ 1 ∷ 0 ∷ 0 ∷ 0 ∷ 1 ∷ 0 ∷ 0 ∷ []

@@ -11,6 +11,7 @@ use Rattle.tree.specs.Level.{lg, highestFull}
 use Rattle.tree.specs.Cover.{piece}
 use Rattle.tree.proofs.Cases.{by-bool, by-leb}
 use Rattle.tree.proofs.Levels.{full-iff}
+use Rattle.user_list.specs.Users.{leastRequest, longestSignature}
 use Rattle.user_write.specs.Write.{pathDigest, commitNumber, writeKind, writeLevel, writeBody}
 use Rattle.honest_run.proofs.Invariant.{Item, hashOf, digestOf, bodyAt}
 use Rattle.honest_run.proofs.Log.{top-is-digest, hash-size, digest-size}
@@ -69,12 +70,12 @@ module _ (L : ℕ → Item) (w : ℕ) (path : List ℕ) (path-ok : (l : ℕ) →
       (λ t. ap₂ (λ (x y : List ℕ). x ++ y) path-digest (sym (signs (let y = ltb-false j (commitNumber (suc w)) t in omega arith))))))
 
 -- and a request's size
-pub body-small : (L : ℕ → Item) (w j : ℕ) → length (L w .entry) ≤ 1024 → (j ≡ commitNumber (suc w) → length (L w .signature) ≡ 2508)
-    → j ≤ commitNumber (suc w) → 26 + length (bodyAt L w j) ≤ 2566
+pub body-small : (L : ℕ → Item) (w j : ℕ) → length (L w .entry) ≤ 1024 → (j ≡ commitNumber (suc w) → length (L w .signature) ≡ longestSignature)
+    → j ≤ commitNumber (suc w) → 26 + length (bodyAt L w j) ≤ leastRequest
 body-small L w j short signed few =
     let p : ℕ = suc w in
     let d = digest-size L (suc w) in
-    let Small : List ℕ → Type 0 = λ x. 26 + length x ≤ 2566 in
+    let Small : List ℕ → Type 0 = λ x. 26 + length x ≤ leastRequest in
     let h : List ℕ = hashOf L (suc w) (writeLevel (suc w) j) in
     let commit : List ℕ = digestOf L (suc w) ++ L w .signature in
     by-bool (λ b. Small (cond b (digestOf L (suc w)) (cond (eqb j (lg p + 1)) (L w .entry) (cond (ltb j (commitNumber (suc w))) h commit)))) (leb j (lg p))

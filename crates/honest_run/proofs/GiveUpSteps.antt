@@ -11,6 +11,7 @@ use borrow.Author.Tests.{eq-eqb, le-leb}
 use Rattle.tree.specs.Message.{answer, answerCode}
 use Rattle.tree.specs.Setup.{Check, firstCode, Settings}
 use Rattle.tree.proofs.Cases.{positive}
+use Rattle.user_list.specs.Users.{leastRequest}
 use Rattle.user.specs.declared.call.Kept.{Kept}
 use Rattle.user.specs.Asking.{userSettingsFit, keptFits, userFits, requestRoom, answerBodyFits, isServerCode, isAnswer, asking}
 use Rattle.user.specs.Outcome.{State, withKept, Lent, Outcome, handingOut}
@@ -48,13 +49,13 @@ done-by code (inl e) = rw (eq-eqb code 0 e)
 done-by code (inr e) = rw (eq-eqb code 27 e) (or-true (eqb code 0))
 
 module _ (s : Settings) (σ : State) (m : Lent) (settled : userSettingsFit s ≡ true) (in-range : keptFits (s .servers) (σ .kept) ≡ true)
-    (opened : σ .kept .opened ≡ true) (unput : σ .kept .progress .put ≡ false) (room : 2566 ≤ length (m .request)) where
+    (opened : σ .kept .opened ≡ true) (unput : σ .kept .progress .put ≡ false) (room : leastRequest ≤ length (m .request)) where
   -- 22, 28 and 21 pass, and what is checked after them decides
   setup-passes : (cs : List Check) → firstCode (giveUpSetup s (σ .kept) (m .request) ++ cs) ≡ firstCode cs
   unfolding giveUpSetup userFits requestRoom firstCode
   setup-passes cs =
       let held : (σ .kept .opened && not (σ .kept .progress .put)) ≡ true = ap₂ (λ (b d : Bool). b && not d) opened unput in
-      rw (settled, in-range, held, le-leb 2566 (length (m .request)) room)
+      rw (settled, in-range, held, le-leb leastRequest (length (m .request)) room)
 
   -- it begins
   pub give-up-starts : giveUpStarted s σ m ≡ giveUpGoes s (withKept σ (beginning (σ .kept))) m

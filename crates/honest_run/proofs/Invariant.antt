@@ -16,7 +16,7 @@ use Rattle.tree.specs.Cover.{at, piece, cover}
 use Rattle.tree.specs.Read.{readNodes}
 use Rattle.tree.specs.Message.{stored, signedText, answer}
 use Rattle.tree.specs.Setup.{inLog}
-use Rattle.user_list.specs.Users.{userKey, signatureLength}
+use Rattle.user_list.specs.Users.{userKey, signatureLength, longestSignature}
 use Rattle.server.specs.declared.Earlier.{Earlier}
 use Rattle.store.specs.Shape.{nodeFits}
 use Rattle.store.specs.Store.{first}
@@ -169,7 +169,7 @@ pub record KeptOk (c : HonestSetup) (L : ℕ → Item) (w g a : ℕ) (begun : Li
   pub number : σ .kept .number ≤ 1024
   pub digest-ok : 0 < σ .kept .version → σ .kept .digest ≡ digestOf L (σ .kept .version)
   pub path-size : length (σ .path) ≡ 672
-  pub signature-size : length (σ .signature) ≡ 2508
+  pub signature-size : length (σ .signature) ≡ longestSignature
   pub open-ok : σ .kept .opened ≡ true → OpenOk c L w g a begun σ
 
 -- all of them

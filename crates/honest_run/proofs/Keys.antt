@@ -10,7 +10,7 @@ use Rattle.lms.specs.Types.{LMOTS_SHA256_N32_W4, LMS_SHA256_M32_H10}
 use Rattle.lms.specs.Tree.{T, treeBytes, treeSize}
 use Rattle.lms.proofs.Nodes.{node-length, tree-length}
 use Rattle.lms.proofs.RoundTrip.{key-length}
-use Rattle.user_list.specs.Users.{userCount, userKey, isListed, listFits, groupFits}
+use Rattle.user_list.specs.Users.{userCount, userKey, isListed, listFits, groupFits, longestTree}
 use Rattle.tree.proofs.Cases.{cases-le, not-both}
 use Rattle.server.specs.Checks as serverChecks
 use Rattle.user.specs.declared.call.Kept.{Kept}
@@ -20,7 +20,7 @@ use Rattle.user.proofs.Ranges.{ProgressInRange, kept-fits}
 use Rattle.honest_run.specs.Network.{HonestSetup, InRange, generatedKey, publicOf, publicTo, settingsIn}
 
 -- the key's tree as key generation leaves it
-pub tree-size : (c : HonestSetup) (a : ℕ) → 65504 ≤ length (generatedKey c a .tree)
+pub tree-size : (c : HonestSetup) (a : ℕ) → longestTree ≤ length (generatedKey c a .tree)
 unfolding generatedKey treeSize
 tree-size c a =
     omega (

@@ -8,6 +8,7 @@ use native.Mathlib.Omega.{arith}
 use lib.ListN.{length}
 use Rattle.tree.specs.Level.{lg}
 use Rattle.tree.proofs.Cases.{by-bool, not-both, untrue, cases-le, cases-eq}
+use Rattle.user_list.specs.Users.{longestSignature, longestTree}
 use Rattle.user.specs.Asking.{keptFits, done}
 use Rattle.user.specs.Outcome.{State, Key, Lent, withKept, Outcome, nothing, ending}
 use Rattle.user.proofs.Ranges.{ProgressInRange}
@@ -121,8 +122,8 @@ module _ (c : HonestSetup) (range : InRange c) (r : Run Network) (a : ℕ) (m : 
   in-range : keptFits (c .servers) (σ .kept) ≡ true
   in-range = fit-user c range (o .log) (o .w) (o .g) a (begunBy r a i) x one last (o .good) .kept-fit
 
-  whole : 65504 ≤ length (who .lent .key .tree)
-  whole = subst (λ (k : Key). 65504 ≤ length (k .tree)) (sym (call .memory .key)) (tree-size c a)
+  whole : longestTree ≤ length (who .lent .key .tree)
+  whole = subst (λ (k : Key). longestTree ≤ length (k .tree)) (sym (call .memory .key)) (tree-size c a)
 
   digest-now : 0 < o .w → σ .kept .digest ≡ digestOf (o .log) (o .w)
   digest-now = subst (λ q. 0 < q → σ .kept .digest ≡ digestOf (o .log) q) (ok .version) (o .good .users-ok a .digest-ok)
@@ -232,7 +233,7 @@ module _ (c : HonestSetup) (range : InRange c) (r : Run Network) (a : ℕ) (m : 
       (entry-same : o .log (o .w) .entry ≡ M (o .w) .entry) (open-then : OpenOk c M (o .w) g′ a entry τ) (is-open : τ .kept .opened ≡ true)
       (unbegun : τ .kept .progress .begun ≡ false) (handed-then : τ .kept .progress .put ≡ false → suc (suc j) ≤ τ .kept .progress .levels)
       (number : τ .kept .number ≤ 1024) (same-digest : τ .kept .digest ≡ σ .kept .digest) (same-path : τ .path ≡ σ .path)
-      (signature-is : length (τ .signature) ≡ 2508) (ready : suc j ≡ commitNumber (suc (o .w)) → τ .kept .signed ≡ true)
+      (signature-is : length (τ .signature) ≡ longestSignature) (ready : suc j ≡ commitNumber (suc (o .w)) → τ .kept .signed ≡ true)
       (servers-M : (s : ℕ) → 1 ≤ s → s ≤ c .servers → ServerOk c M (o .w) g′ s (arrives c x a .servers s))
       (asks-on : writeTaken (settingsIn c a) σ (who .lent) now given ≡ writeAsks (settingsIn c a) τ (who .lent) later) where
     few : suc j ≤ commitNumber (suc (o .w))

@@ -6,6 +6,7 @@ use Prim.Native.Nat.{ℕ, suc, _+_, _≤_, _<_}
 use native.Mathlib.Omega.{arith}
 use lib.ListN.{length}
 use Rattle.tree.proofs.Cases.{not-both}
+use Rattle.user_list.specs.Users.{longestSignature}
 use Rattle.user_list.proofs.Lists.{one-length}
 use Rattle.user.specs.Outcome.{State, Lent, Outcome, handingOut}
 use Rattle.user.specs.Asking.{asking}
@@ -84,7 +85,7 @@ module _ (c : HonestSetup) (range : InRange c) (r : Run Network) (a : ℕ) (m : 
     (old : (i : ℕ) → i < o .w → o .log i ≡ M i) where
   -- what the step leaves
   pub open-leaves : OpenOk c M (o .w) h a entry σ → σ .kept .opened ≡ true → σ .kept .progress .begun ≡ false → σ .kept .number ≤ 1024
-      → (0 < o .w → σ .kept .digest ≡ digestOf (o .log) (o .w)) → length (σ .path) ≡ 672 → length (σ .signature) ≡ 2508
+      → (0 < o .w → σ .kept .digest ≡ digestOf (o .log) (o .w)) → length (σ .path) ≡ 672 → length (σ .signature) ≡ longestSignature
       → ((s : ℕ) → 1 ≤ s → s ≤ c .servers → ServerOk c M (o .w) h s (arrives c x a .servers s))
       → ((s : ℕ) → 1 ≤ s → s ≤ c .servers → RoomLeft c M (o .w) h s (arrives c x a .servers s)) → h ≤ suc (commitNumber (suc (o .w)))
       → Leaves c M (o .w) h a (begunBy r a (startWrite m entry randomizer) a) σ (arrives c x a .servers)

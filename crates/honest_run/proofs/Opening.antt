@@ -24,6 +24,7 @@ use Rattle.tree.proofs.Honest.{TrueAnswers, true-cover-gives-path}
 use Rattle.tree.proofs.Levels.{lg-below}
 use Rattle.tree.proofs.Paths.{path-bytes-length, path-whole}
 use Rattle.tree.proofs.Pieces.{piece-whole}
+use Rattle.user_list.specs.Users.{leastRequest, longestTree}
 use Rattle.user.specs.declared.call.Kept.{Kept}
 use Rattle.user.specs.Asking.{userSettingsFit, keptFits, userFits, userSetupChecks, requestRoom}
 use Rattle.user.specs.Outcome.{State, stateOf, Lent, withHashes, withHeld, Outcome, refusal}
@@ -46,13 +47,13 @@ use Rattle.honest_run.proofs.Updates.{Arrived}
 
 -- the start of a Write
 module _ (s : Settings) (σ : State) (m : Lent) (entry : List ℕ) (settled : userSettingsFit s ≡ true) (in-range : keptFits (s .servers) (σ .kept) ≡ true)
-    (room : 2566 ≤ length (m .request)) (whole : 65504 ≤ length (m .key .tree)) (shaped : entryFits entry ≡ true) (ruled : rulesKept entry ≡ true) where
+    (room : leastRequest ≤ length (m .request)) (whole : longestTree ≤ length (m .key .tree)) (shaped : entryFits entry ≡ true) (ruled : rulesKept entry ≡ true) where
   -- 22, 21, 19 and 26 pass; 18 and 17 are left
   pub start-passes : (not (σ .kept .opened) || (not (σ .kept .progress .begun) && eqs (value (ownLeaf s entry)) (piece (σ .path) 0))) ≡ true
       → ((σ .kept .opened && σ .kept .signed) || ltb (σ .kept .number) 1024) ≡ true → firstCode (writeStartChecks s σ m entry) ≡ 0
   unfolding writeStartChecks userSetupChecks userFits writeRoom requestRoom firstCode
   start-passes same spare =
-      rw (settled, in-range, le-leb 2566 (length (m .request)) room, le-leb 65504 (length (m .key .tree)) (omega arith), same, shaped, ruled, spare)
+      rw (settled, in-range, le-leb leastRequest (length (m .request)) room, le-leb longestTree (length (m .key .tree)) (omega arith), same, shaped, ruled, spare)
 
 -- the memory of a Write that starts
 abbrev pub holding : Lent → List ℕ → Lent
@@ -72,7 +73,7 @@ passed-starts s σ m entry randomizer z = rw z
 
 -- with nothing open, an Update begins
 pub write-starts : (s : Settings) (σ : State) (m : Lent) (entry randomizer : List ℕ) → userSettingsFit s ≡ true → keptFits (s .servers) (σ .kept) ≡ true
-    → 2566 ≤ length (m .request) → 65504 ≤ length (m .key .tree) → entryFits entry ≡ true → rulesKept entry ≡ true
+    → leastRequest ≤ length (m .request) → longestTree ≤ length (m .key .tree) → entryFits entry ≡ true → rulesKept entry ≡ true
     → σ .kept .opened ≡ false → σ .kept .number < 1024
     → writeStarted s σ m entry randomizer
     ≡ writeWaits σ (freshWrite (σ .kept) entry randomizer) (updateGoes s σ (holding m entry) freshUpdate)

@@ -18,6 +18,7 @@ use Rattle.tree.proofs.ByteLaws.{written-length}
 use Rattle.tree.proofs.Cases.{by-eqb, cases-eq, positive}
 use Rattle.user_list.proofs.Lists.{Group}
 use Rattle.tree.proofs.HonestRead.{TrueReads, true-read-gives-digest}
+use Rattle.user_list.specs.Users.{leastRequest}
 use Rattle.user.specs.declared.call.Kept.{Kept}
 use Rattle.user.specs.Asking.{userSettingsFit, keptFits, userFits, userSetupChecks, requestRoom, ofNode, isAnswer}
 use Rattle.user.specs.Outcome.{State, Lent, withHashes, withHeld}
@@ -41,13 +42,13 @@ fresh-read v i L hashes held =
 
 -- 22, 21 and 24 pass, and what is checked after them decides
 checks-pass : (s : Settings) (k : Kept) (i : ℕ) (m : Lent) (cs : List Check) → userSettingsFit s ≡ true → keptFits (s .servers) k ≡ true → 1 ≤ i → i ≤ k .version
-    → 2566 ≤ length (m .request) → 1024 ≤ length (m .entry) → firstCode (readChecks s k i m ++ cs) ≡ firstCode cs
+    → leastRequest ≤ length (m .request) → 1024 ≤ length (m .entry) → firstCode (readChecks s k i m ++ cs) ≡ firstCode cs
 unfolding readChecks userSetupChecks userFits requestRoom firstCode
 checks-pass s k i m cs settings-fit kept-fit one iv room entry-room =
     rw (
       settings-fit,
       kept-fit,
-      le-leb 2566 (length (m .request)) room,
+      le-leb leastRequest (length (m .request)) room,
       le-leb 1024 (length (m .entry)) entry-room,
       le-leb 1 i one,
       le-leb i (k .version) iv,
@@ -55,7 +56,7 @@ checks-pass s k i m cs settings-fit kept-fit one iv room entry-room =
 
 -- a Read starts with the Operation
 pub read-starts : (c : HonestSetup) (L : ℕ → Item) (w a i : ℕ) (σ : State) (m : Lent) → Fit c L w a (σ .kept) → 1 ≤ i → i ≤ σ .kept .version
-    → 2566 ≤ length (m .request) → 1024 ≤ length (m .entry) → readStarted (settingsIn c a) σ m i ≡ readAsks (settingsIn c a) σ m (freshRead i)
+    → leastRequest ≤ length (m .request) → 1024 ≤ length (m .entry) → readStarted (settingsIn c a) σ m i ≡ readAsks (settingsIn c a) σ m (freshRead i)
 unfolding readStarted firstCode
 read-starts c L w a i σ m fit one iv room entry-room =
     let e : firstCode (readChecks (settingsIn c a) (σ .kept) i m) ≡ 0 =
@@ -104,7 +105,7 @@ memory-collected r m body ok =
 
 -- an answer that passes 22, 21, 24, 10 and 11 is collected
 module _ (s : Settings) (σ : State) (m : Lent) (r : Read) (a body : List ℕ) (settings-fit : userSettingsFit s ≡ true)
-    (kept-fit : keptFits (s .servers) (σ .kept) ≡ true) (room : 2566 ≤ length (m .request)) (entry-room : 1024 ≤ length (m .entry))
+    (kept-fit : keptFits (s .servers) (σ .kept) ≡ true) (room : leastRequest ≤ length (m .request)) (entry-room : 1024 ≤ length (m .entry))
     (some : 1 ≤ r .position) (low : r .position ≤ σ .kept .version) (waits : r .answers < readCount (r .position) (σ .kept .version))
     (shape : isAnswer (readWant (s .servers) (σ .kept .version) r) a ≡ true) (code : answerCode a ≡ 0) (is : answerBody a ≡ body) where
   -- what is checked after 11 decides

@@ -12,6 +12,7 @@ use Rattle.tree.specs.Bytes.{written}
 use Rattle.tree.specs.Message.{requestKind, answerBody}
 use Rattle.tree.specs.Setup.{firstCode, Settings}
 use Rattle.tree.proofs.Cases.{and-true, cases-eq, not-both}
+use Rattle.user_list.specs.Users.{leastRequest}
 use Rattle.server.proofs.Theorems.{pull-changes-nothing}
 use Rattle.user.specs.declared.ask.Want.{Want}
 use Rattle.user.specs.declared.call.Step.{Step}
@@ -66,7 +67,7 @@ module _ (s : Settings) (named : length (s .log) ≡ 16) (σ : State) where
       → requestKind (sentBy (asking want []) (written buffer 0 (asks s want [])) .bytes) ≤ 4
   unfolding sentBy asking requestRoom
   pull-out want buffer small room =
-      let long = leb-true 2566 (length buffer) room in
+      let long = leb-true leastRequest (length buffer) room in
       omega (arith, sent-kind s want [] buffer named (omega arith) (omega arith))
 
   -- an Update, and that of a Write

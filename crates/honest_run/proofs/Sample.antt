@@ -15,6 +15,7 @@ use Rattle.tree.specs.Level.{leastFrom, reaches, lg, isFull, highestFull}
 use Rattle.tree.specs.Label.{owner}
 use Rattle.tree.specs.Setup.{Settings, firstCode}
 use Rattle.tree.proofs.Cases.{not-both}
+use Rattle.user_list.specs.Users.{leastAnswer, leastRequest, longestCommit, longestSignature}
 use Rattle.user.specs.Asking.{requestRoom, refused}
 use Rattle.user.specs.Outcome.{lentOf, State, Lent, Outcome}
 use Rattle.user.proofs.Passed.{setup-passed, by-cond}
@@ -35,17 +36,17 @@ use Rattle.honest_run.proofs.Theorem.{honest-run}
 use Rattle.honest_run.proofs.Frames.{runFrom}
 
 -- a request stores at most a Commit and the entry's size
-little : (n p size s j : ℕ) → storedTo n p size s j ≤ j * (2552 + size)
+little : (n p size s j : ℕ) → storedTo n p size s j ≤ j * (leastAnswer + size)
 unfolding storedTo bodySize
 little n p size s zero = omega arith
 little n p size s (suc j) =
     let owned = ltb (lg p) j && eqb (owner n p (writeLevel p j)) s in
-    let body : cond (eqb j (lg p + 1)) size (cond (ltb j (commitNumber p)) 32 2540) ≤ 2540 + size =
-    by-bool (λ b. cond b size (cond (ltb j (commitNumber p)) 32 2540) ≤ 2540 + size) (eqb j (lg p + 1)) (λ _. omega arith)
-    (λ _. by-bool (λ b. cond b 32 2540 ≤ 2540 + size) (ltb j (commitNumber p)) (λ _. omega arith) (λ _. omega arith))
+    let body : cond (eqb j (lg p + 1)) size (cond (ltb j (commitNumber p)) 32 longestCommit) ≤ longestCommit + size =
+    by-bool (λ b. cond b size (cond (ltb j (commitNumber p)) 32 longestCommit) ≤ longestCommit + size) (eqb j (lg p + 1)) (λ _. omega arith)
+    (λ _. by-bool (λ b. cond b 32 longestCommit ≤ longestCommit + size) (ltb j (commitNumber p)) (λ _. omega arith) (λ _. omega arith))
     in
-    let one : cond owned (12 + cond (eqb j (lg p + 1)) size (cond (ltb j (commitNumber p)) 32 2540)) 0 ≤ 2552 + size =
-    by-bool (λ b. cond b (12 + cond (eqb j (lg p + 1)) size (cond (ltb j (commitNumber p)) 32 2540)) 0 ≤ 2552 + size) owned (λ _. omega arith) (λ _. omega arith)
+    let one : cond owned (12 + cond (eqb j (lg p + 1)) size (cond (ltb j (commitNumber p)) 32 longestCommit)) 0 ≤ leastAnswer + size =
+    by-bool (λ b. cond b (12 + cond (eqb j (lg p + 1)) size (cond (ltb j (commitNumber p)) 32 longestCommit)) 0 ≤ leastAnswer + size) owned (λ _. omega arith) (λ _. omega arith)
     in
     let r = little n p size s j in
     omega arith
@@ -56,7 +57,7 @@ entry = 3 ∷ 1 ∷ 0 ∷ 100 ∷ 3 ∷ 182 ∷ 0 ∷ 20 ∷ []
 
 abbrev pub memory : Lent
 memory =
-    record { hashes = replicate 1248 0; held = replicate 1026 0; request = replicate 2566 0; entry = []; key = generatedKey small 1 }
+    record { hashes = replicate 1248 0; held = replicate 1026 0; request = replicate leastRequest 0; entry = []; key = generatedKey small 1 }
 
 abbrev pub first : Input
 first = startWrite memory entry (replicate 32 0)
@@ -67,9 +68,9 @@ zeros-first =
       users = λ a. record {
         digest = replicate 32 0;
         path = replicate 672 0;
-        signature = replicate 2508 0;
+        signature = replicate longestSignature 0;
         path-size = length-replicate {A = ℕ} 672 0;
-        signature-size = length-replicate {A = ℕ} 2508 0;
+        signature-size = length-replicate {A = ℕ} longestSignature 0;
       };
       servers = λ s. record { author = 0; digest = replicate 32 0; store = replicate 8000 0; digest-size = length-replicate {A = ℕ} 32 0 };
     }
@@ -111,7 +112,7 @@ valid =
                 record {
                   hashes = length-replicate {A = ℕ} 1248 0;
                   held = length-replicate {A = ℕ} 1026 0;
-                  request = let l : length (replicate {A = ℕ} 2566 0) ≡ 2566 = length-replicate {A = ℕ} 2566 0 in omega arith;
+                  request = let l : length (replicate {A = ℕ} leastRequest 0) ≡ leastRequest = length-replicate {A = ℕ} leastRequest 0 in omega arith;
                 };
             key = refl;
             random = length-replicate {A = ℕ} 32 0;
@@ -143,13 +144,13 @@ empty = lentOf [] [] [] [] (generatedKey small 1)
 abbrev early : Input
 early = startUpdate empty
 
-too-short : (s : Settings) (σ : State) (m : Lent) → length (m .request) < 2566 → updateStarted s σ m .step .code ≡ 0 → ⊥
+too-short : (s : Settings) (σ : State) (m : Lent) → length (m .request) < leastRequest → updateStarted s σ m .step .code ≡ 0 → ⊥
 unfolding updateStarted updateSetup refused requestRoom
 too-short s σ m short =
     let code = firstCode (updateSetup s (σ .kept) (m .request)) in
     by-cond (λ (o : Outcome Update). o .step .code ≡ 0 → ⊥) (eqb code 0) _ _
     (λ e _.
-    let room = leb-true 2566 (length (m .request)) (setup-passed s (σ .kept) (requestRoom (m .request)) _ (eqb-true code 0 e) .1) in
+    let room = leb-true leastRequest (length (m .request)) (setup-passed s (σ .kept) (requestRoom (m .request)) _ (eqb-true code 0 e) .1) in
     omega arith)
     (λ e z. absurd (eqb-false code 0 e z))
 

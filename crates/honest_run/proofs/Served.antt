@@ -10,7 +10,7 @@ use Rattle.sha256.proofs.Laws.{eqs-refl}
 use Rattle.tree.specs.Label.{owner}
 use Rattle.tree.specs.Message.{markOf, begins, request, requestHeader, requestKind, requestLog, requestAuthor, requestPosition, requestLevel, requestBody, answer}
 use Rattle.tree.specs.Setup.{firstCode, inLog}
-use Rattle.user_list.specs.Users.{userCount, isListed, signatureLength}
+use Rattle.user_list.specs.Users.{userCount, isListed, signatureLength, leastAnswer}
 use Rattle.tree.proofs.Cases.{cases-eq, and-true}
 use Rattle.tree.proofs.Messages.{request-header-length, request-begins, request-kind, request-log, request-author, request-position, request-level, request-body}
 use Rattle.server.specs.declared.Head.{Head}
@@ -130,7 +130,7 @@ module _ (c : HonestSetup) (s : ℕ) (x : Server) (q : List ℕ) where
     setup-zero : firstCode (serverSetupChecks (settingsIn c s) (x .head) (x .store) (x .used) (c .answers s)) ≡ 0
     setup-zero =
         setup-ready (settingsIn c s) (x .head) (x .store) (x .used) (c .answers s) ready
-        ∙ ap (λ (b : Bool). cond b 0 21) (le-leb 2552 (length (c .answers s)) (c .roomy s))
+        ∙ ap (λ (b : Bool). cond b 0 21) (le-leb leastAnswer (length (c .answers s)) (c .roomy s))
 
     module _ (early : Early (settingsIn c s) q) where
       -- all other checks pass, or give the kind's code

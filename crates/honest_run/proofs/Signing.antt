@@ -13,7 +13,7 @@ use Rattle.lms.specs.Claims.{RoundTrip, SignatureLength}
 use Rattle.lms.proofs.RoundTrip.{round-trip, set-fits, signature-length}
 use Rattle.tree.specs.Expr.{entryText}
 use Rattle.tree.specs.Message.{signedText}
-use Rattle.user_list.specs.Users.{userKey}
+use Rattle.user_list.specs.Users.{userKey, longestSignature}
 use Rattle.user_list.proofs.Lists.{one-length}
 use Rattle.tree.proofs.Cases.{cases-eq, not-both}
 use Rattle.user.specs.declared.call.Kept.{Kept}
@@ -52,7 +52,7 @@ module _ (c : HonestSetup) (r : InRange c) (a number : ℕ) (randomizer text : L
       signature LMOTS_SHA256_N32_W4 LMS_SHA256_M32_H10 (c .id a) (c .seed a) number randomizer text
       (treeBytes LMOTS_SHA256_N32_W4 (LMS_SHA256_M32_H10 .h) (c .id a) (c .seed a) ++ c .beyond a)
 
-  made-size : length made ≡ 2508
+  made-size : length made ≡ longestSignature
   unfolding SignatureLength signatureSize generatedKey treeSize
   made-size =
       signature-length LMOTS_SHA256_N32_W4 LMS_SHA256_M32_H10 (c .id a) (c .seed a) randomizer text
@@ -94,7 +94,7 @@ module _ (c : HonestSetup) (r : InRange c) (L : ℕ → Item) (w g a : ℕ) (beg
       ap (userKey (publicTo c (c .count))) (ok .author)
       ∙ own-key c r a (rw (ok .author) at (ok .item .one)) (rw (ok .author) at (ok .item .listed))
 
-  signature-size : length sig ≡ 2508
+  signature-size : length sig ≡ longestSignature
   signature-size = ap length sig-is ∙ made-size c r a (k .number) randomizer text spare random
 
   -- place w then has a signature that its author's key accepts
@@ -132,5 +132,5 @@ module _ (c : HonestSetup) (r : InRange c) (L : ℕ → Item) (w g a : ℕ) (beg
       }
 
   -- the signature has its size, and the write is open with it
-  pub signs-open : (length sig ≡ 2508) × OpenOk c M w g a begun (signedState σ i sig)
+  pub signs-open : (length sig ≡ longestSignature) × OpenOk c M w g a begun (signedState σ i sig)
   signs-open = (signature-size, signed-open)

@@ -12,6 +12,7 @@ use borrow.Author.Tests.{eq-eqb, ne-eqb, eqb-true, eqb-false, lt-ltb, le-ltb}
 use Rattle.tree.specs.Setup.{firstCode, Settings}
 use Rattle.tree.proofs.Cases.{and-true, cases-le, not-both}
 use Rattle.tree.proofs.CheckLists.{check-passes}
+use Rattle.user_list.specs.Users.{longestTree}
 use Rattle.server.specs.Serve.{ServeOutcome, served}
 use Rattle.user.specs.Asking.{userSettingsFit, keptFits, userFits, userSetupChecks, refused, done, asking}
 use Rattle.user.specs.Outcome.{State, Key, Lent, Outcome}
@@ -263,7 +264,7 @@ module _ (c : HonestSetup) (range : InRange c) (r : Run Network) (a : ℕ) (m : 
   starts : start ≡ writeWaits (user .state) fresh update
   starts =
       write-starts (settingsIn c a) (user .state) m entry randomizer (goes .1) (goes .2) (memory .request)
-      (subst (λ (k : Key). 65504 ≤ length (k .tree)) (sym key) (tree-size c a)) shaped ruled shut number
+      (subst (λ (k : Key). longestTree ≤ length (k .tree)) (sym key) (tree-size c a)) shaped ruled shut number
       ∙ ap (writeWaits (user .state) fresh) (sym (goes .0))
 
   -- its start is not refused

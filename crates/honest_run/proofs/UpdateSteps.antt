@@ -15,6 +15,7 @@ use Rattle.tree.specs.Setup.{Check, firstCode, Settings}
 use Rattle.tree.proofs.ByteLaws.{written-length}
 use Rattle.tree.proofs.Cases.{by-bool, cases-le, cases-eq, positive}
 use Rattle.tree.proofs.Counts.{cover-at-most-39}
+use Rattle.user_list.specs.Users.{leastRequest}
 use Rattle.user_list.proofs.Lists.{Group}
 use Rattle.user.specs.declared.call.Kept.{Kept}
 use Rattle.user.specs.Asking.{userSettingsFit, keptFits, userFits, userSetupChecks, requestRoom, isAnswer, answerChecks, ofNode, ofStatus}
@@ -34,15 +35,15 @@ use Rattle.honest_run.proofs.Contents.{digest-back, record-holds, gives
 
 -- 22, 21 and 18 pass, and what is checked after them decides
 setup-passes : (s : Settings) (k : Kept) (buffer : List ℕ) (cs : List Check) → userSettingsFit s ≡ true → keptFits (s .servers) k ≡ true → k .opened ≡ false
-    → 2566 ≤ length buffer → firstCode (updateSetup s k buffer ++ cs) ≡ firstCode cs
+    → leastRequest ≤ length buffer → firstCode (updateSetup s k buffer ++ cs) ≡ firstCode cs
 unfolding updateSetup userSetupChecks userFits requestRoom firstCode
 setup-passes s k buffer cs settings-fit kept-fit shut room =
     let closed : not (k .opened) ≡ true = rw shut in
-    rw (settings-fit, kept-fit, le-leb 2566 (length buffer) room, closed)
+    rw (settings-fit, kept-fit, le-leb leastRequest (length buffer) room, closed)
 
 -- an Update starts with a Status of server 1
 pub update-starts : (c : HonestSetup) (L : ℕ → Item) (w a : ℕ) (σ : State) (m : Lent) → Fit c L w a (σ .kept) → σ .kept .opened ≡ false
-    → 2566 ≤ length (m .request) → updateStarted (settingsIn c a) σ m ≡ updateGoes (settingsIn c a) σ m freshUpdate
+    → leastRequest ≤ length (m .request) → updateStarted (settingsIn c a) σ m ≡ updateGoes (settingsIn c a) σ m freshUpdate
 unfolding updateStarted firstCode
 update-starts c L w a σ m fit shut room =
     let e : firstCode (updateSetup (settingsIn c a) (σ .kept) (m .request)) ≡ 0 =
@@ -58,7 +59,7 @@ update-hashes-size n u body hashes =
 
 -- an answer that passes 22, 21, 18, 10 and 11, and whose contents pass, is taken
 module _ (s : Settings) (σ : State) (m : Lent) (u : Update) (a body : List ℕ)
-    (settings-fit : userSettingsFit s ≡ true) (kept-fit : keptFits (s .servers) (σ .kept) ≡ true) (shut : σ .kept .opened ≡ false) (room : 2566 ≤ length (m .request))
+    (settings-fit : userSettingsFit s ≡ true) (kept-fit : keptFits (s .servers) (σ .kept) ≡ true) (shut : σ .kept .opened ≡ false) (room : leastRequest ≤ length (m .request))
     (waits : updateEnded (s .servers) (σ .kept .version) u ≡ false) (shape : isAnswer (updateWant (s .servers) (σ .kept .version) u) a ≡ true)
     (code : answerCode a ≡ 0) (is : answerBody a ≡ body) where
   -- what is checked after 11 decides
@@ -76,7 +77,7 @@ module _ (s : Settings) (σ : State) (m : Lent) (u : Update) (a body : List ℕ)
 
 -- one with another code of a server's is refused by 11
 pub server-refuses : (s : Settings) (σ : State) (m : Lent) (u : Update) (a : List ℕ) (code : ℕ) → userSettingsFit s ≡ true
-    → keptFits (s .servers) (σ .kept) ≡ true → σ .kept .opened ≡ false → 2566 ≤ length (m .request) → updateEnded (s .servers) (σ .kept .version) u ≡ false
+    → keptFits (s .servers) (σ .kept) ≡ true → σ .kept .opened ≡ false → leastRequest ≤ length (m .request) → updateEnded (s .servers) (σ .kept .version) u ≡ false
     → isAnswer (updateWant (s .servers) (σ .kept .version) u) a ≡ true → answerCode a ≡ code → (code ≡ 0 → ⊥) → updateTaken s σ m u a ≡ refusal 11 a σ m u
 unfolding updateTaken updateEarly answerChecks firstCode
 server-refuses s σ m u a code settings-fit kept-fit shut room waits shape is n =
@@ -250,7 +251,7 @@ module _ (c : HonestSetup) (L : ℕ → Item) (w a : ℕ) (σ : State) (m : Lent
       sym (cases-le n (u .answers) (λ h. cases-eq (u .answers) n record-passes (λ e. hash-passes (omega (arith, e)))) heads-pass)
 
   -- a right answer is taken, and the Update goes on
-  pub update-right : k .opened ≡ false → 2566 ≤ length (m .request)
+  pub update-right : k .opened ≡ false → leastRequest ≤ length (m .request)
       → (updateTaken (settingsIn c a) σ m u (answerTo (updateWant n v u) body) ≡ updateGoes (settingsIn c a) σ (withHashes m over) next)
       × UpdateOk n v w L next over
   update-right shut room =

@@ -8,6 +8,7 @@ use native.Mathlib.Nat.{zero-add}
 use lib.ListN.{length}
 use Rattle.sha256.proofs.Cases.{by-bool}
 use Rattle.tree.proofs.Cases.{not-both}
+use Rattle.user_list.specs.Users.{longestTree}
 use Rattle.user.specs.Asking.{asking}
 use Rattle.user.specs.Outcome.{Key, Lent, Outcome}
 use Rattle.user_update.specs.Update.{freshUpdate, updateAnswers}
@@ -45,8 +46,8 @@ module _ (c : HonestSetup) (range : InRange c) (r : Run Network) (a : ℕ) (m : 
   fit : Fit c (between .log) (between .w) a (user .state .kept)
   fit = fit-user c range (between .log) (between .w) (between .g) a (r .begun) (r .network) (valid .one) (valid .listed) (between .good)
 
-  whole : 65504 ≤ length (m .key .tree)
-  whole = subst (λ (k : Key). 65504 ≤ length (k .tree)) (sym (given .key)) (tree-size c a)
+  whole : longestTree ≤ length (m .key .tree)
+  whole = subst (λ (k : Key). longestTree ≤ length (k .tree)) (sym (given .key)) (tree-size c a)
 
   abbrev fresh : Write
   fresh = freshWrite (user .state .kept) entry randomizer

@@ -17,6 +17,7 @@ use Rattle.tree.specs.Setup.{firstCode, Settings}
 use Rattle.tree.proofs.Cases.{by-bool, cases-eq}
 use Rattle.tree.proofs.Labels.{owner-range}
 use Rattle.tree.proofs.Levels.{lg-below}
+use Rattle.user_list.specs.Users.{leastRequest, longestTree}
 use Rattle.user.specs.declared.call.Kept.{Kept}
 use Rattle.user.specs.Asking.{userSettingsFit, keptFits, userFits, userSetupChecks, requestRoom, ofNode, answerBodyFits, isAnswer, answerChecks, asking}
 use Rattle.user.specs.Outcome.{State, stateOf, Lent, withProgress, withKept, Outcome, nothing, ending, handingOut}
@@ -103,7 +104,7 @@ module _ (c : HonestSetup) (L : ℕ → Item) (w g a : ℕ) (entry : List ℕ) (
 -- an open write of user a, and the memory that is lent to it
 module _ (c : HonestSetup) (r : InRange c) (L : ℕ → Item) (w g a : ℕ) (entry : List ℕ) (σ : State) (m : Lent)
     (opened : σ .kept .opened ≡ true) (unbegun : σ .kept .progress .begun ≡ false) (in-range : keptFits (c .servers) (σ .kept) ≡ true) (ok : OpenOk c L w g a entry σ)
-    (room : 2566 ≤ length (m .request)) (whole : 65504 ≤ length (m .key .tree)) where
+    (room : leastRequest ≤ length (m .request)) (whole : longestTree ≤ length (m .key .tree)) where
   abbrev k : Kept
   k = σ .kept
 
@@ -181,8 +182,8 @@ module _ (c : HonestSetup) (r : InRange c) (L : ℕ → Item) (w g a : ℕ) (ent
         rw (
           settled,
           in-range,
-          le-leb 2566 (length (m .request)) room,
-          le-leb 65504 (length (m .key .tree)) (omega arith),
+          le-leb leastRequest (length (m .request)) room,
+          le-leb longestTree (length (m .key .tree)) (omega arith),
           waits,
           is-accepted .0,
           eq-eqb (answerCode given) 0 (is-accepted .1),

@@ -30,9 +30,22 @@ groupFits n users = leb 2 n && (leb n 16 && listFits users)
 unfoldable pub signatureLength : List ℕ → ℕ → ℕ
 signatureLength users a = signatureSize LMOTS_SHA256_N32_W4 LMS_SHA256_M32_H10
 
--- The longest signature that a key may make. Document 01, code 21: "lent buffer below .. 2,552 (answer)", a Record's with that signature.
+-- The longest signature that a key may make, and with it the bodies of a Commit and of a Record, and the tree of such a key.
 abbrev pub longestSignature : ℕ
 longestSignature = 2508
+
+abbrev pub longestCommit : ℕ
+longestCommit = 2540
+
+abbrev pub longestRecord : ℕ
+longestRecord = 2542
+
+abbrev pub longestTree : ℕ
+longestTree = 65504
+
+-- Document 01, code 21: "lent buffer below 2,566 (request to be written), 2,552 (answer)".
+abbrev pub leastRequest : ℕ
+leastRequest = 2566
 
 abbrev pub leastAnswer : ℕ
 leastAnswer = 2552

@@ -7,6 +7,7 @@ use native.Mathlib.Omega.{arith}
 use lib.ListN.{length, take}
 use borrow.Author.Tests.{leb-true}
 use Rattle.tree.specs.Setup.{firstCode, Settings}
+use Rattle.user_list.specs.Users.{leastAnswer}
 use Rattle.server.specs.declared.Head.{Head}
 use Rattle.server.specs.Checks.{serverSetupChecks}
 use Rattle.server.specs.Serve.{ServeOutcome, served}
@@ -24,6 +25,6 @@ module _ (s : Settings) (h : Head) (store : List ℕ) (used : ℕ) (q buffer : L
   unfolding serverSetupChecks
   all-given =
       let p = served-passed s h store used q buffer z in
-      let room : 2552 ≤ length buffer = leb-true 2552 (length buffer) (passed 20 _ _ (passed 21 _ _ z .1) .0) in
-      let small : length (given s h store used q buffer) ≤ 2552 = rw p at (answer-at-most-2552 s h store used q buffer) in
+      let room : leastAnswer ≤ length buffer = leb-true leastAnswer (length buffer) (passed 20 _ _ (passed 21 _ _ z .1) .0) in
+      let small : length (given s h store used q buffer) ≤ leastAnswer = rw p at (answer-at-most-2552 s h store used q buffer) in
       rw p (rw zero-add at (take-written buffer 0 (length (given s h store used q buffer)) (given s h store used q buffer) refl (omega arith)))

@@ -23,6 +23,7 @@ use Rattle.tree.proofs.Cases.{and-true}
 use Rattle.tree.proofs.Messages.{be-one, request-position}
 use Rattle.tree.proofs.Pieces.{piece-length}
 use Rattle.tree.specs.Setup.{Settings}
+use Rattle.user_list.specs.Users.{leastRequest, longestCommit, longestSignature, longestTree}
 use Rattle.user_update.specs.declared.call.Update.{Update}
 use Rattle.user_write.specs.declared.call.Write.{Write}
 use Rattle.user.specs.declared.ask.Want.{Want}
@@ -87,13 +88,13 @@ unfolding writeKind
 reserve-first p = rw (le-leb 0 (lg p) (omega arith))
 
 -- every request of a write fits 2,566 bytes: its body is at most a digest and a signature
-pub body-short : (p j : ℕ) (w : Write) (σ : State) (held : List ℕ) → w .length ≤ 1024 → length (σ .signature) ≡ 2508
-    → length (writeBody p j (σ .path) (heldEntry w held) (σ .signature)) ≤ 2540
+pub body-short : (p j : ℕ) (w : Write) (σ : State) (held : List ℕ) → w .length ≤ 1024 → length (σ .signature) ≡ longestSignature
+    → length (writeBody p j (σ .path) (heldEntry w held) (σ .signature)) ≤ longestCommit
 unfolding writeBody pathDigest heldEntry
 body-short p j w σ held short z =
-    by-cond (λ (q : List ℕ). length q ≤ 2540) (leb j (lg p)) _ _ (λ e. omega (arith, piece-length (σ .path) (lg p)))
-    (λ e. by-cond (λ (q : List ℕ). length q ≤ 2540) (eqb j (lg p + 1)) _ _ (λ d. omega (arith, length-take (w .length) held))
-    (λ d. by-cond (λ (q : List ℕ). length q ≤ 2540) (ltb j (commitNumber p)) _ _ (λ c. omega (arith, piece-length (σ .path) (writeLevel p j)))
+    by-cond (λ (q : List ℕ). length q ≤ longestCommit) (leb j (lg p)) _ _ (λ e. omega (arith, piece-length (σ .path) (lg p)))
+    (λ e. by-cond (λ (q : List ℕ). length q ≤ longestCommit) (eqb j (lg p + 1)) _ _ (λ d. omega (arith, length-take (w .length) held))
+    (λ d. by-cond (λ (q : List ℕ). length q ≤ longestCommit) (ltb j (commitNumber p)) _ _ (λ c. omega (arith, piece-length (σ .path) (writeLevel p j)))
     (λ c. omega (arith, length-append (piece (σ .path) (lg p)) (σ .signature), piece-length (σ .path) (lg p)))))
 
 -- the sizes that an entry may have
@@ -104,19 +105,19 @@ entry-sizes entry e =
     let short = and-true (leb (length entry) 1024) _ (some .1) in
     (leb-true 1 (length entry) (some .0), leb-true (length entry) 1024 (short .0))
 
-pub room-passed : (key : Key) (buffer : List ℕ) → writeRoom key buffer ≡ true → (2566 ≤ length buffer) × (65504 ≤ length (key .tree))
+pub room-passed : (key : Key) (buffer : List ℕ) → writeRoom key buffer ≡ true → (leastRequest ≤ length buffer) × (longestTree ≤ length (key .tree))
 unfolding writeRoom requestRoom
 room-passed key buffer e =
-    let x = and-true (requestRoom buffer) (leb 65504 (length (key .tree))) e in
-    (leb-true 2566 (length buffer) (x .0), leb-true 65504 (length (key .tree)) (x .1))
+    let x = and-true (requestRoom buffer) (leb longestTree (length (key .tree))) e in
+    (leb-true leastRequest (length buffer) (x .0), leb-true longestTree (length (key .tree)) (x .1))
 
 -- the signature that is kept or made has 2,508 bytes: 17 leaves it a number, 21 a tree
-pub signature-sized : (s : Settings) (σ : State) (key : Key) (w : Write) → length (σ .signature) ≡ 2508
-    → length (w .randomizer) ≡ 32 → 65504 ≤ length (key .tree) → not (signsNext (σ .kept) w) || ltb (σ .kept .number) 1024 ≡ true
-    → length (writeSignature s σ key w) ≡ 2508
+pub signature-sized : (s : Settings) (σ : State) (key : Key) (w : Write) → length (σ .signature) ≡ longestSignature
+    → length (w .randomizer) ≡ 32 → longestTree ≤ length (key .tree) → not (signsNext (σ .kept) w) || ltb (σ .kept .number) 1024 ≡ true
+    → length (writeSignature s σ key w) ≡ longestSignature
 unfolding writeSignature commitSignature SignatureLength signatureSize treeSize
 signature-sized s σ key w z random long free =
-    by-cond (λ (q : List ℕ). length q ≡ 2508) (signsNext (σ .kept) w) _ _
+    by-cond (λ (q : List ℕ). length q ≡ longestSignature) (signsNext (σ .kept) w) _ _
     (λ e.
     let f = ltb-true (σ .kept .number) 1024 (rw e at free) in
     signature-length LMOTS_SHA256_N32_W4 LMS_SHA256_M32_H10 (key .id) (key .seed) (w .randomizer) _ (key .tree) (σ .kept .number) random f long)
