@@ -153,7 +153,7 @@ fn stray_answer(
         r (userLent (now (kept .entry)) path signature call hashes held (now (request .entry)) entry)) ⌝ }
 {
     let k = user_state::kept_of(*kept);
-    let room = bools::at_most(2566, request.len());
+    let room = user_list::request_room(request.len());
     let setup = ask::setup_code(config, users, k, room);
     let code = bools::checked(bools::equal(setup as usize, 0), setup, 10);
     using::plain_result(ask::refused(code, answer))

@@ -2,7 +2,7 @@
 // follows from a key.
 ghost use mathlib.Core.Path.{_≡_};
 ghost use lib.Dec.{leb};
-ghost use Rattle.user_list.specs.Users.{userKey, isListed, listFits, groupFits, signatureLength, leastAnswer};
+ghost use Rattle.user_list.specs.Users.{userKey, isListed, listFits, groupFits, signatureLength, leastRequest, leastAnswer};
 use sha256::bytes;
 use tree::bools;
 
@@ -53,7 +53,14 @@ pub fn signature_length(users: &[u8], a: u16) -> u16
     2508
 }
 
-// Whether a lent buffer has room for the longest answer.
+// Whether a lent buffer of this length has room for the longest request.
+pub fn request_room(length: usize) -> bool
+    ensures { λ r. ⌜ r ≡ leb leastRequest length ⌝ }
+{
+    bools::at_most(2566, length)
+}
+
+// Whether one has room for the longest answer.
 pub fn answer_room(length: usize) -> bool
     ensures { λ r. ⌜ r ≡ leb leastAnswer length ⌝ }
 {
