@@ -10,8 +10,8 @@ use Rattle.user_calls.specs.Calls.{Input, startUpdate, startWrite, startRead, s
 use Rattle.whole_run.specs.World.{Setup, settingsFor, Event, handedOut, answered, Noted, User, userStep}
 use Rattle.whole_run.specs.Runs.{World, Step, user, drops, server, Sized}
 
--- What is asked of steps, log being what was noted before: of bytes x that user a takes as H's answer to its last request q (`gave a log q x`),
--- and of a give-up q that H accepts (`timely log q`).
+-- What is asked of steps, log being what was noted before: of bytes x that user a takes as H's answer to its last request q
+-- (`gave a log q x`), and of a give-up q that H accepts (`timely log q`).
 pub record Premises : Type 1 where
   pub gave : ℕ → List Event → List ℕ → List ℕ → Type 0
   pub timely : List Event → List ℕ → Type 0

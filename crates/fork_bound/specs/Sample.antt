@@ -89,8 +89,8 @@ server-1-reserves = Ru.server 1 (out reserves) (replicate leastAnswer 0) ∷ res
 abbrev puts : List Ru.Step
 puts = Ru.user 1 (Ca.answer reserved) ∷ server-1-reserves
 
--- Before that, user 1 may give the write up: it starts a give-up after server 1 has accepted the Reserve, server 1 accepts that too, and its
--- answer is taken.
+-- Before that, user 1 may give the write up: it starts a give-up after server 1 has accepted the Reserve, server 1 accepts that too, and
+-- its answer is taken.
 abbrev pub gives-up : List Ru.Step
 gives-up = Ru.user 1 (Ca.startGiveUp memory) ∷ server-1-reserves
 
