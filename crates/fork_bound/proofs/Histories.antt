@@ -14,7 +14,8 @@ use Rattle.tree.specs.Message.{signedText}
 use Rattle.tree.proofs.Cases.{cases-le}
 use Rattle.tree.proofs.Levels.{lg-ge}
 use Rattle.tree.proofs.Agree.{AllIn}
-use Rattle.tree.proofs.Trees.{tree-cong, equal-digests-equal-leaves}
+use Rattle.tree.proofs.Trees.{tree-cong}
+use Rattle.tree.proofs.Openings.{equal-digests-equal-leaves}
 use Rattle.tree.proofs.Grows.{path-gives-next-digest}
 use Rattle.tree.proofs.Messages.{text-position, text-digest}
 use Rattle.whole_run.specs.World.{signed}

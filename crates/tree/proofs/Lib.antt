@@ -9,6 +9,7 @@ pub mod Trees
 pub mod Tiles
 pub mod Pieces
 pub mod Cuts
+pub mod Openings
 pub mod Covers
 pub mod ReadLaws
 pub mod Grows
