@@ -17,13 +17,15 @@ pub fn after(code: u32, servers_code: u32, signed: bool) {
     print::text(b"\n");
 }
 
-// After 4, which says that the position is taken. All servers of a write that is signed had accepted it, so one that says 4 now has a later
-// position, which a user reserves only where the Commit is stored.
+// After 4, which says that the position is taken. All servers of a write that is signed had accepted it, so one that follows the rules and
+// says 4 now has a later position, which a user reserves only where the Commit is stored. That it follows them is not known: whether the
+// entry is in the log is for another user to read.
 fn of_taken(signed: bool) {
     if signed {
         print::text(
-            b"no alarm: this write is in the log, but another user wrote after it before this command was run again. Unless that user gives \
-            its write up, this key can only read in this log: OPERATING, 'A write that cannot be finished'",
+            b"another user wrote before this command was run again. Have that user `read` the position after this version: where this \
+            entry stands there, no alarm, and unless that user gives its write up, this key can only read in this log; else an ALARM: \
+            OPERATING, 'A write that cannot be finished'",
         );
     } else {
         print::text(
