@@ -4,9 +4,10 @@ ghost use mathlib.Core.Bool.{false, _&&_};
 ghost use mathlib.Core.List.{List};
 ghost use Prim.Native.Nat.{ℕ};
 ghost use lib.Dec.{eqb, leb};
-ghost use lib.ListN.{getD};
+ghost use lib.ListN.{getD, length};
 ghost use Rattle.tree.specs.Setup.{settings};
 ghost use Rattle.tree.specs.Inner.{settingsOf};
+ghost use Rattle.user_list.specs.Users.{longestSignature};
 ghost use Rattle.user.specs.Outcome.{Key, keyOf};
 ghost use Rattle.user_calls.specs.Calls.{idle, updating, writing, reading, givingUp};
 ghost use Rattle.c_layout.specs.User.{updateOf, writeOf, readOf, giveUpOf, callOf, userLent, UserYields, answeredBy, userAnswered};
@@ -53,12 +54,13 @@ fn write_answer(
     answer: &[u8],
     kept: &mut [u8; 46],
     path: &mut [u8; 672],
-    signature: &mut [u8; 2508],
+    signature: &mut [u8],
     call: &mut [u8; 82],
     hashes: &mut [u8; 1248],
     held: &[u8; 1026],
     request: &mut [u8],
 ) -> Asked
+    requires { ⌜ length (now signature) ≡ longestSignature ⌝ }
     ensures { λ r. ⌜ ((entry : List ℕ)
         → UserYields (answeredBy (settingsOf config (now (users .entry))) (userLent (now (kept .entry)) (now (path .entry))
         (now (signature .entry)) (now (call .entry)) (now (hashes .entry)) (now (held .entry)) (now (request .entry)) entry)
@@ -216,13 +218,14 @@ pub fn take(
     answer: &[u8],
     kept: &mut [u8; 46],
     path: &mut [u8; 672],
-    signature: &mut [u8; 2508],
+    signature: &mut [u8],
     call: &mut [u8; 82],
     hashes: &mut [u8; 1248],
     held: &mut [u8; 1026],
     request: &mut [u8],
     entry: &mut [u8],
 ) -> Asked
+    requires { ⌜ length (now signature) ≡ longestSignature ⌝ }
     ensures { λ r. ⌜ UserYields (userAnswered (settings servers own (now (log .entry)) (now (users .entry)))
         (userLent (now (kept .entry)) (now (path .entry)) (now (signature .entry)) (now (call .entry)) (now (hashes .entry))
         (now (held .entry)) (now (request .entry)) (now (entry .entry)))

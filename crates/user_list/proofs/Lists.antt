@@ -7,7 +7,9 @@ use native.Mathlib.Omega.{arith}
 use lib.Dec.{eqb, leb}
 use lib.ListN.{length, take}
 use borrow.Author.Tests.{leb-true, le-leb, lt-leb}
-use Rattle.user_list.specs.Users.{userCount, userKey, isListed, listFits, groupFits, signatureLength, longestSignature}
+use Rattle.user_list.specs.Users.{userCount, userKey, isListed, listFits, groupFits, signatureLength, treeLength, signatureCount}
+use Rattle.user_list.specs.Users.{longestSignature, longestTree}
+use Rattle.lms.specs.Tree.{treeSize}
 use Rattle.lms.specs.Signature.{signatureSize}
 use Rattle.tree.proofs.Cases.{and-true, by-leb}
 
@@ -45,10 +47,18 @@ listed-by-length n a =
     (λ h. sym (le-leb a (n / 56) (omega arith)))
     (λ h. sym (lt-leb a (n / 56) (omega arith)))
 
--- every key is of one type, so all signatures are of one length; none is longer
+-- every key is of one type, so all signatures are of one length, and all keys have one length and make as many; none is longer
 pub one-length : (users : List ℕ) (a : ℕ) → signatureLength users a ≡ longestSignature
 unfolding signatureLength signatureSize
 one-length users a = refl
+
+pub one-tree : (users : List ℕ) (a : ℕ) → treeLength users a ≡ longestTree
+unfolding treeLength treeSize
+one-tree users a = refl
+
+pub one-count : (users : List ℕ) (a : ℕ) → signatureCount users a ≡ 1024
+unfolding signatureCount
+one-count users a = refl
 
 pub signature-most : (users : List ℕ) (a : ℕ) → signatureLength users a ≤ longestSignature
 unfolding signatureLength signatureSize

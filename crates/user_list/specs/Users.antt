@@ -2,10 +2,11 @@
 -- from 1. All that is asked of it, and every length that follows from a key, stands here.
 use mathlib.Core.Bool.{Bool, _&&_}
 use mathlib.Core.List.{List}
-use Prim.Native.Nat.{ℕ, _-_, _*_, _/_, _%_}
+use Prim.Native.Nat.{ℕ, _+_, _-_, _*_, _/_, _%_, _^_}
 use lib.Dec.{eqb, leb}
 use lib.ListN.{length, take, drop}
 use Rattle.lms.specs.Types.{LMOTS_SHA256_N32_W4, LMS_SHA256_M32_H10}
+use Rattle.lms.specs.Tree.{treeSize}
 use Rattle.lms.specs.Signature.{signatureSize}
 
 unfoldable pub userCount : List ℕ → ℕ
@@ -26,26 +27,33 @@ listFits users = eqb (length users % 56) 0 && (leb 1 (userCount users) && leb (u
 unfoldable pub groupFits : ℕ → List ℕ → Bool
 groupFits n users = leb 2 n && (leb n 16 && listFits users)
 
--- How long user a's signatures are. Every key is of one type.
+-- How long user a's signatures are, how long the tree of its key is, and how many signatures the key makes. Every key is of one type.
 unfoldable pub signatureLength : List ℕ → ℕ → ℕ
 signatureLength users a = signatureSize LMOTS_SHA256_N32_W4 LMS_SHA256_M32_H10
 
--- The longest signature that a key may make, and with it the bodies of a Commit and of a Record, and the tree of such a key.
+unfoldable pub treeLength : List ℕ → ℕ → ℕ
+treeLength users a = treeSize (LMS_SHA256_M32_H10 .h)
+
+unfoldable pub signatureCount : List ℕ → ℕ → ℕ
+signatureCount users a = 2 ^ LMS_SHA256_M32_H10 .h
+
+-- The longest signature that a key may make, and with it the bodies of a Commit (digest, signature) and of a Record (author, digest,
+-- signature), and the longest tree of a key.
 abbrev pub longestSignature : ℕ
 longestSignature = 2508
 
 abbrev pub longestCommit : ℕ
-longestCommit = 2540
+longestCommit = 32 + longestSignature
 
 abbrev pub longestRecord : ℕ
-longestRecord = 2542
+longestRecord = 34 + longestSignature
 
 abbrev pub longestTree : ℕ
 longestTree = 65504
 
--- Document 01, code 21: "lent buffer below 2,566 (request to be written), 2,552 (answer)".
+-- Document 01, code 21: "lent buffer below 2,566 (request to be written), 2,552 (answer)": a Commit, and the answer to a Record.
 abbrev pub leastRequest : ℕ
-leastRequest = 2566
+leastRequest = 26 + longestCommit
 
 abbrev pub leastAnswer : ℕ
-leastAnswer = 2552
+leastAnswer = 10 + longestRecord

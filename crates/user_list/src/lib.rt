@@ -2,7 +2,7 @@
 // follows from a key.
 ghost use mathlib.Core.Path.{_≡_};
 ghost use lib.Dec.{leb};
-ghost use Rattle.user_list.specs.Users.{userKey, isListed, listFits, groupFits, signatureLength, leastRequest, leastAnswer};
+ghost use Rattle.user_list.specs.Users.{userKey, isListed, listFits, groupFits, signatureLength, treeLength, signatureCount, leastRequest, leastAnswer};
 use sha256::bytes;
 use tree::bools;
 
@@ -51,6 +51,20 @@ pub fn signature_length(users: &[u8], a: u16) -> u16
     ensures { λ r. ⌜ r ≡ signatureLength (now (users .entry)) a ⌝ }
 {
     2508
+}
+
+// The length of the tree of user a's key.
+pub fn tree_length(users: &[u8], a: u16) -> usize
+    ensures { λ r. ⌜ r ≡ treeLength (now (users .entry)) a ⌝ }
+{
+    65504
+}
+
+// How many signatures user a's key makes.
+pub fn signature_count(users: &[u8], a: u16) -> u32
+    ensures { λ r. ⌜ r ≡ signatureCount (now (users .entry)) a ⌝ }
+{
+    1024
 }
 
 // Whether a lent buffer of this length has room for the longest request.
