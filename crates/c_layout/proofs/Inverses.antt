@@ -16,6 +16,7 @@ use Rattle.user_update.specs.declared.call.Update.{Update}
 use Rattle.user_write.specs.declared.call.Write.{Write}
 use Rattle.user_read.specs.declared.call.Read.{Read}
 use Rattle.user_give_up.specs.declared.call.GiveUp.{GiveUp}
+use Rattle.tree.specs.Setup.{Settings}
 use Rattle.user.specs.Asking.{keptFits}
 use Rattle.user_calls.specs.Calls.{updating, writing, reading, givingUp}
 use Rattle.c_layout.specs.Mark.{markOf}
@@ -83,9 +84,9 @@ module _ (k : Kept) (d : length (k .digest) ≡ 32) where
       rw (kept-marks, kept-behind 4, kept-behind 5, mark-read (k .opened), mark-read (k .signed), kept-version hv, kept-number hn, kept-digest, kept-progress)
 
 -- Bytes with a mark above 1 are out of range.
-pub marks-out-of-range : (n : ℕ) (b : List ℕ) → marksFit b ≡ false → keptFits n (keptOf b) ≡ false
+pub marks-out-of-range : (s : Settings) (b : List ℕ) → marksFit b ≡ false → keptFits s (keptOf b) ≡ false
 unfolding keptFits keptOf
-marks-out-of-range n b e = rw e
+marks-out-of-range s b e = rw e
 
 -- the Update of a call's bytes, and what stands behind it
 module _ (b : List ℕ) (kind : ℕ) (u : Update) (rest : List ℕ) (d : length (u .digest) ≡ 32) (e : b ≡ (kind ∷ updateBytes u) ++ rest) where

@@ -389,7 +389,7 @@ module _ (s : Settings) where
         let P : Outcome Write → Type 0 = λ o. Begins σ m (asCall writing o) in
         by-cond P (eqb code 0) _ _
         (λ e.
-        let first = setup-passed s (σ .kept) (writeRoom (m .key) (m .request)) _ (eqb-true code 0 e) in
+        let first = setup-passed s (σ .kept) (writeRoom s (m .key) (m .request)) _ (eqb-true code 0 e) in
         let same = check-passes 18 _ _ (λ z. omega arith) (first .2) in
         let short = entry-sizes entry (check-passes 19 _ _ (λ z. omega arith) (same .1) .0) .1 in
         let two = first .0 .two in

@@ -76,7 +76,7 @@ module _ (W : Whole) (own : ℕ) (u : User) (ok : UserOk W own u) where
       let Keeps : Outcome Write → Type 0 = λ o. o .step .code ≡ 0 → UserOk W own (after u (asCall writing o)) in
       by-cond Keeps (eqb code 0) _ _
       (λ e.
-      let first = setup-passed s k (writeRoom (m .key) (m .request)) _ (eqb-true code 0 e) in
+      let first = setup-passed s k (writeRoom s (m .key) (m .request)) _ (eqb-true code 0 e) in
       let same = check-passes 18 _ _ (λ z. omega arith) (first .2) in
       let short = entry-sizes entry (check-passes 19 _ _ (λ z. omega arith) (same .1) .0) .1 in
       let room = and-true (requestRoom (m .request)) _ (first .1) .0 in

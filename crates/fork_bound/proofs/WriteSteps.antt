@@ -126,9 +126,9 @@ module _ (W : Whole) (own : ℕ) (u : User) where
     signature-stays-sized : firstCode (writeChecks s (σ .kept) (u .lent) w a) ≡ 0 → length (writeSignature s σ (u .lent .key) w) ≡ longestSignature
     unfolding writeChecks userSetupChecks
     signature-stays-sized z =
-        let first = setup-passed s (σ .kept) (writeRoom (u .lent .key) (u .lent .request)) _ z in
-        let number = check-passes 17 _ _ (λ z. omega arith) (answer-passed _ _ a _ (first .2) .rest) in
-        signature-sized s σ (u .lent .key) w (ok .state .sized) (i .random) (room-passed (u .lent .key) (u .lent .request) (first .1) .1) (number .0)
+        let first = setup-passed s (σ .kept) (writeRoom s (u .lent .key) (u .lent .request)) _ z in
+        let number = check-passes 17 _ _ (λ z. omega arith) (answer-passed _ _ _ a _ (first .2) .rest) in
+        signature-sized s σ (u .lent .key) w (ok .state .sized) (i .random) (room-passed s (u .lent .key) (u .lent .request) (first .1) .1) (number .0)
 
     -- the Commit was accepted
     committed-ok : (g : Going s σ (u .lent) w a) → w .answers ≡ commitNumber p

@@ -6,15 +6,15 @@ use Prim.Native.Nat.{ℕ, _+_, _-_, _^_, _≤_, _<_}
 use native.Mathlib.Omega.{arith}
 use lib.ListN.{length, length-append}
 use lib.Pow.{pow-mono}
-use lib.Seq.{take-at}
+use lib.Seq.{take-at, drop-at}
 use borrow.Author.Tests.{le-leb, eq-eqb}
-use Rattle.sha256.specs.Bytes.{be}
+use Rattle.sha256.specs.Bytes.{be, numberAt}
 use Rattle.sha256.proofs.Laws.{be-length, eqs-refl}
 use Rattle.tree.specs.Level.{lg, isFull}
 use Rattle.tree.specs.Expr.{entryText}
 use Rattle.tree.specs.Message.{answerHeader, answer, answerCode, answerBody}
 use Rattle.tree.specs.Setup.{Check, firstCode}
-use Rattle.user_list.specs.Users.{userCount, groupFits, longestRecord}
+use Rattle.user_list.specs.Users.{userCount, groupFits, signatureLength}
 use Rattle.tree.proofs.Cases.{and-true, by-eqb, cases-le, cases-eq}
 use Rattle.user_list.proofs.Lists.{Group, group-fits}
 use Rattle.tree.proofs.Labels.{owner-range}
@@ -31,7 +31,7 @@ use Rattle.honest_run.proofs.Log.{hash-size, digest-size}
 -- user a keeps k, where w entries are committed
 pub record Fit (c : HonestSetup) (L : ℕ → Item) (w a : ℕ) (k : Kept) : Type 0 where
   pub settings-fit : userSettingsFit (settingsIn c a) ≡ true
-  pub kept-fit : keptFits (c .servers) k ≡ true
+  pub kept-fit : keptFits (settingsIn c a) k ≡ true
   pub low : k .version ≤ w
   pub within : w ≤ 1048576
   pub digest-ok : 0 < k .version → k .digest ≡ digestOf L (k .version)
@@ -48,39 +48,37 @@ abbrev pub answerTo : Want → List ℕ → List ℕ
 answerTo want body = answer (want .kind) (want .server) (want .position) (want .level) 0 body
 
 -- an answer that is headed as its request asks, has code 0 and a body of the right size is taken
-pub right-answer : (want : Want) (body : List ℕ) → want .kind < 256 → want .server < 256 → want .position < 4294967296 → want .level < 256
-    → answerBodyFits (want .kind) (length body) ≡ true
-    → (isAnswer want (answerTo want body) ≡ true) × (answerCode (answerTo want body) ≡ 0)
+pub right-answer : (users : List ℕ) (want : Want) (body : List ℕ) → want .kind < 256 → want .server < 256 → want .position < 4294967296
+    → want .level < 256 → answerBodyFits users (want .kind) body ≡ true
+    → (isAnswer users want (answerTo want body) ≡ true) × (answerCode (answerTo want body) ≡ 0)
 unfolding isAnswer isServerCode headed answer
-right-answer want body k s p l fits =
+right-answer users want body k s p l fits =
     let header : List ℕ = answerHeader (want .kind) (want .server) (want .position) (want .level) 0 in
     let n : length header ≡ 10 = answer-header-length (want .kind) (want .server) (want .position) (want .level) 0 in
     let code : answerCode (header ++ body) ≡ 0 = answer-code (want .kind) (want .server) (want .position) (want .level) 0 body k s p l (omega arith) in
-    let size : length (header ++ body) - 10 ≡ length body = omega (arith, length-append header body) in
-    (rw (code, take-at header body 10 n, eqs-refl header, size, fits), code)
+    (rw (code, take-at header body 10 n, eqs-refl header, drop-at header body 10 n, fits), code)
 
 -- so is one with another of a server's codes, which has no body
-pub coded-answer : (want : Want) (code : ℕ) → want .kind < 256 → want .server < 256 → want .position < 4294967296 → want .level < 256
-    → code < 256 → isServerCode code ≡ true → (code ≡ 0 → answerBodyFits (want .kind) 0 ≡ true)
-    → (isAnswer want (answer (want .kind) (want .server) (want .position) (want .level) code []) ≡ true)
+pub coded-answer : (users : List ℕ) (want : Want) (code : ℕ) → want .kind < 256 → want .server < 256 → want .position < 4294967296
+    → want .level < 256 → code < 256 → isServerCode code ≡ true → (code ≡ 0 → answerBodyFits users (want .kind) [] ≡ true)
+    → (isAnswer users want (answer (want .kind) (want .server) (want .position) (want .level) code []) ≡ true)
     × (answerCode (answer (want .kind) (want .server) (want .position) (want .level) code []) ≡ code)
 unfolding isAnswer headed answer
-coded-answer want code k s p l small servers none =
+coded-answer users want code k s p l small servers none =
     let header : List ℕ = answerHeader (want .kind) (want .server) (want .position) (want .level) code in
     let n : length header ≡ 10 = answer-header-length (want .kind) (want .server) (want .position) (want .level) code in
     let is : answerCode (header ++ []) ≡ code = answer-code (want .kind) (want .server) (want .position) (want .level) code [] k s p l small in
-    let all : length (header ++ []) ≡ 10 = ap length (append-nil header) ∙ n in
-    let size : length (header ++ []) - 10 ≡ 0 = omega arith in (
-      rw (is, take-at header [] 10 n, eqs-refl header, servers, size, eq-eqb (length (header ++ [])) 10 all)
-          (by-eqb (λ b. cond b (answerBodyFits (want .kind) 0) true ≡ true) code 0 none (λ _. refl)),
+    let all : length (header ++ []) ≡ 10 = ap length (append-nil header) ∙ n in (
+      rw (is, take-at header [] 10 n, eqs-refl header, servers, drop-at header [] 10 n, eq-eqb (length (header ++ [])) 10 all)
+          (by-eqb (λ b. cond b (answerBodyFits users (want .kind) []) true ≡ true) code 0 none (λ _. refl)),
       is,
     )
 
 -- 10 and 11 pass at an answer that is waited for, well shaped and has code 0, and what is checked after them decides
-pub answer-passes : (waits : Bool) (want : Want) (a : List ℕ) (cs : List Check) → waits ≡ true → isAnswer want a ≡ true → answerCode a ≡ 0
-    → firstCode (answerChecks waits want a ++ cs) ≡ firstCode cs
+pub answer-passes : (users : List ℕ) (waits : Bool) (want : Want) (a : List ℕ) (cs : List Check) → waits ≡ true
+    → isAnswer users want a ≡ true → answerCode a ≡ 0 → firstCode (answerChecks users waits want a ++ cs) ≡ firstCode cs
 unfolding answerChecks firstCode
-answer-passes waits want a cs w s z = rw (w, s, z)
+answer-passes users waits want a cs w s z = rw (w, s, z)
 
 -- a node within the log may be asked for at its owner
 pub node-asks : (c : HonestSetup) (w kind p l : ℕ) → 2 ≤ kind → kind ≤ 4 → 1 ≤ p → p ≤ w → (kind ≡ 2 → isFull p l ≡ true) → (kind ≡ 3 → l ≡ 0)
@@ -178,8 +176,8 @@ module _ (c : HonestSetup) (L : ℕ → Item) (w g : ℕ) (two : 2 ≤ c .server
         let short = i .short in
         (omega arith, omega arith)
 
-    -- author, digest and signature have 2,542
-    record-size : want .kind ≡ 4 → length body ≡ longestRecord
+    -- author, digest and signature
+    record-size : want .kind ≡ 4 → length body ≡ 34 + signatureLength (publicTo c (c .count)) (numberAt 2 body 0)
     unfolding RightBody
     record-size e =
         let h : 2 ≤ want .kind = omega arith in
@@ -188,10 +186,11 @@ module _ (c : HonestSetup) (L : ℕ → Item) (w g : ℕ) (two : 2 ≤ c .server
         let i = want .position - 1 in
         let s = items i (omega arith) .1 .size ∙ one-length (publicTo c (c .count)) (L i .author) in
         let d = digest-size L (want .position) in
+        let all = one-length (publicTo c (c .count)) (numberAt 2 body 0) in
         ap length (right .3 e) ∙ simp length-append (omega (arith, be-length 2 (L i .author)))
 
     -- the body has the size of its kind
-    body-fits : answerBodyFits (want .kind) (length body) ≡ true
+    body-fits : answerBodyFits (publicTo c (c .count)) (want .kind) body ≡ true
     unfolding answerBodyFits
     body-fits =
         cases-eq (want .kind) 1 (λ e. rw e (eq-eqb _ _ (status-size e)))
@@ -202,16 +201,16 @@ module _ (c : HonestSetup) (L : ℕ → Item) (w g : ℕ) (two : 2 ≤ c .server
         (λ o. let e : want .kind ≡ 4 = omega (arith, m, n, o, ask .first-kind, ask .last-kind) in rw e (eq-eqb _ _ (record-size e)))))
 
     -- 10 and 11 pass
-    passes : (isAnswer want (answerTo want body) ≡ true) × (answerCode (answerTo want body) ≡ 0)
+    passes : (isAnswer (publicTo c (c .count)) want (answerTo want body) ≡ true) × (answerCode (answerTo want body) ≡ 0)
     passes =
         let k = ask .last-kind in
         let l = level-small in
         let s = server-small in
         let p = position-small in
-        right-answer want body (omega arith) (omega arith) (omega arith) (omega arith) body-fits
+        right-answer (publicTo c (c .count)) want body (omega arith) (omega arith) (omega arith) (omega arith) body-fits
 
     -- the answer is well shaped
-    pub right-shape : isAnswer want (answerTo want body) ≡ true
+    pub right-shape : isAnswer (publicTo c (c .count)) want (answerTo want body) ≡ true
     right-shape = passes .0
 
     -- the code is 0

@@ -218,7 +218,7 @@ module _ (c : HonestSetup) (range : InRange c) (r : Run Network) (a : ℕ) (m : 
       let fit = fit-user c range (o .log) (o .w) (o .g) a (begunBy r a i) x one last (o .good) in
       let low = lg-below (suc (o .w)) 20 (omega (arith, ok .within)) in
       let shape =
-      told-answers n k (right .code) (omega (arith, first .within, range .sixteen)) (omega (arith, ok .version, ok .within)) (omega (arith, level, low))
+      told-answers _ n k (right .code) (omega (arith, first .within, range .sixteen)) (omega (arith, ok .version, ok .within)) (omega (arith, level, low))
       (right .told) in
       give-up-takes (settingsIn c a) σ (who .lent) (fit .settings-fit) (fit .kept-fit) (call .opened) (call .unput) (call .memory .request) answered
       (right .code) (call .begun) (call .next) (shape .0) (shape .1) (right .told)

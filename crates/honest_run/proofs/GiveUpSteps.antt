@@ -35,20 +35,20 @@ abbrev pub toldAnswer : ℕ → Kept → ℕ → List ℕ
 toldAnswer n k code = answer 9 (nextTold n k) (suc (k .version)) (giveUpWant n k .level) code []
 
 -- it is one to its request
-pub told-answers : (n : ℕ) (k : Kept) (code : ℕ) → nextTold n k < 256 → suc (k .version) < 4294967296 → giveUpWant n k .level < 256
-    → (code ≡ 0) ⊎ (code ≡ 27) → (isAnswer (giveUpWant n k) (toldAnswer n k code) ≡ true) × (answerCode (toldAnswer n k code) ≡ code)
+pub told-answers : (users : List ℕ) (n : ℕ) (k : Kept) (code : ℕ) → nextTold n k < 256 → suc (k .version) < 4294967296 → giveUpWant n k .level < 256
+    → (code ≡ 0) ⊎ (code ≡ 27) → (isAnswer users (giveUpWant n k) (toldAnswer n k code) ≡ true) × (answerCode (toldAnswer n k code) ≡ code)
 unfolding giveUpWant answerBodyFits isServerCode
-told-answers n k code server position level (inl e) =
-    coded-answer (giveUpWant n k) code (omega arith) server position level (omega arith) (rw e) (λ _. refl)
-told-answers n k code server position level (inr e) =
-    coded-answer (giveUpWant n k) code (omega arith) server position level (omega arith) (rw e) (λ _. refl)
+told-answers users n k code server position level (inl e) =
+    coded-answer users (giveUpWant n k) code (omega arith) server position level (omega arith) (rw e) (λ _. refl)
+told-answers users n k code server position level (inr e) =
+    coded-answer users (giveUpWant n k) code (omega arith) server position level (omega arith) (rw e) (λ _. refl)
 
 -- a server is done by 0 and by 27
 done-by : (code : ℕ) → (code ≡ 0) ⊎ (code ≡ 27) → (eqb code 0 || eqb code 27) ≡ true
 done-by code (inl e) = rw (eq-eqb code 0 e)
 done-by code (inr e) = rw (eq-eqb code 27 e) (or-true (eqb code 0))
 
-module _ (s : Settings) (σ : State) (m : Lent) (settled : userSettingsFit s ≡ true) (in-range : keptFits (s .servers) (σ .kept) ≡ true)
+module _ (s : Settings) (σ : State) (m : Lent) (settled : userSettingsFit s ≡ true) (in-range : keptFits s (σ .kept) ≡ true)
     (opened : σ .kept .opened ≡ true) (unput : σ .kept .progress .put ≡ false) (room : leastRequest ≤ length (m .request)) where
   -- 22, 28 and 21 pass, and what is checked after them decides
   setup-passes : (cs : List Check) → firstCode (giveUpSetup s (σ .kept) (m .request) ++ cs) ≡ firstCode cs
@@ -66,14 +66,14 @@ module _ (s : Settings) (σ : State) (m : Lent) (settled : userSettingsFit s ≡
 
   -- an answer with 0 or 27 is taken: that server is done
   pub give-up-takes : (y : List ℕ) (code : ℕ) → σ .kept .progress .begun ≡ true → (nextTold (s .servers) (σ .kept) ≡ 0 → ⊥)
-      → isAnswer (giveUpWant (s .servers) (σ .kept)) y ≡ true → answerCode y ≡ code → (code ≡ 0) ⊎ (code ≡ 27)
+      → isAnswer (s .users) (giveUpWant (s .servers) (σ .kept)) y ≡ true → answerCode y ≡ code → (code ≡ 0) ⊎ (code ≡ 27)
       → giveUpTaken s σ m waiting y ≡ giveUpGoes s (withKept σ (told (s .servers) (σ .kept))) m
   unfolding giveUpTaken giveUpChecks waiting firstCode
   give-up-takes y code begun next shape is done =
       let n : ℕ = s .servers in
       let out : (σ .kept .progress .begun && leb 1 (nextTold n (σ .kept))) ≡ true =
       ap₂ (λ (b d : Bool). b && d) begun (le-leb 1 (nextTold n (σ .kept)) (positive _ next)) in
-      let ten : ((σ .kept .progress .begun && leb 1 (nextTold n (σ .kept))) && isAnswer (giveUpWant n (σ .kept)) y) ≡ true =
+      let ten : ((σ .kept .progress .begun && leb 1 (nextTold n (σ .kept))) && isAnswer (s .users) (giveUpWant n (σ .kept)) y) ≡ true =
       ap₂ (λ (b d : Bool). b && d) out shape in
       let e : firstCode (giveUpChecks s (σ .kept) waiting (m .request) y) ≡ 0 =
       setup-passes _ ∙ rw (ten, is, done-by code done) in

@@ -5,18 +5,21 @@ use Prim.Native.Nat.{ℕ, zero, suc, _-_, _*_, _%_, _≤_, _<_}
 use native.Mathlib.Omega.{arith}
 use lib.ListN.{length, take, drop, length-append, length-drop}
 use lib.Seq.{take-all, take-append-le, drop-at, drop-append-le}
-use borrow.Author.Tests.{eq-eqb, le-leb}
+use borrow.Author.Tests.{eq-eqb, le-leb, lt-ltb}
 use Rattle.lms.specs.Types.{LMOTS_SHA256_N32_W4, LMS_SHA256_M32_H10}
 use Rattle.lms.specs.Tree.{T, treeBytes, treeSize}
 use Rattle.lms.proofs.Nodes.{node-length, tree-length}
 use Rattle.lms.proofs.RoundTrip.{key-length}
-use Rattle.user_list.specs.Users.{userCount, userKey, isListed, listFits, groupFits, longestTree}
+use Rattle.tree.specs.Setup.{Settings}
+use Rattle.user_list.specs.Users.{userCount, userKey, isListed, listFits, groupFits, longestTree, treeLength, signatureCount}
+use Rattle.user_list.proofs.Lists.{one-tree, one-count}
 use Rattle.tree.proofs.Cases.{cases-le, not-both}
 use Rattle.server.specs.Checks as serverChecks
 use Rattle.user.specs.declared.call.Kept.{Kept}
 use Rattle.user.specs.Asking as userChecks
 use Rattle.user.specs.Asking.{keptFits}
 use Rattle.user.proofs.Ranges.{ProgressInRange, kept-fits}
+use Rattle.user_write.specs.Write.{numberLeft}
 use Rattle.honest_run.specs.Network.{HonestSetup, InRange, generatedKey, publicOf, publicTo, settingsIn}
 
 -- the key's tree as key generation leaves it
@@ -29,17 +32,33 @@ tree-size c a =
       tree-length LMOTS_SHA256_N32_W4 (LMS_SHA256_M32_H10 .h) (c .id a) (c .seed a),
     )
 
--- what a user keeps is in range, with no write open
-pub kept-fits-shut : (n : ℕ) (k : Kept) → k .opened ≡ false → k .version ≤ 1048576 → k .number ≤ 1024 → keptFits n k ≡ true
-kept-fits-shut n k shut low few =
-    kept-fits n k
-    (record { version = low; number = few; opened = λ o. not-both (k .opened) o shut; progress = λ o. not-both (k .opened) o shut })
+-- 21: it is as long as the list says
+pub tree-room : (s : Settings) (tree : ℕ) → longestTree ≤ tree → treeLength (s .users) (s .own) ≤ tree
+tree-room s tree h = omega (arith, one-tree (s .users) (s .own))
 
--- what a user keeps is in range, with a write open
-pub kept-fits-open : (n : ℕ) (k : Kept) → k .version < 1048576 → k .number ≤ 1024 → ProgressInRange n (suc (k .version)) (k .signed) (k .progress)
-    → keptFits n k ≡ true
-kept-fits-open n k low few progress =
-    kept-fits n k (record { version = omega arith; number = few; opened = λ _. low; progress = λ _. progress })
+module _ (s : Settings) (k : Kept) where
+  -- 17: a number is left
+  pub left-number : k .number < 1024 → numberLeft s k ≡ true
+  unfolding numberLeft
+  left-number h = lt-ltb (k .number) (signatureCount (s .users) (s .own)) (omega (arith, one-count (s .users) (s .own)))
+
+  -- what a user keeps is in range, with no write open
+  pub kept-fits-shut : k .opened ≡ false → k .version ≤ 1048576 → k .number ≤ 1024 → keptFits s k ≡ true
+  kept-fits-shut shut low few =
+      kept-fits s k
+      (record {
+        version = low;
+        number = omega (arith, few, one-count (s .users) (s .own));
+        opened = λ o. not-both (k .opened) o shut;
+        progress = λ o. not-both (k .opened) o shut;
+      })
+
+  -- what a user keeps is in range, with a write open
+  pub kept-fits-open : k .version < 1048576 → k .number ≤ 1024 → ProgressInRange (s .servers) (suc (k .version)) (k .signed) (k .progress)
+      → keptFits s k ≡ true
+  kept-fits-open low few progress =
+      let number = one-count (s .users) (s .own) in
+      kept-fits s k (record { version = omega arith; number = omega arith; opened = λ _. low; progress = λ _. progress })
 
 module _ (c : HonestSetup) (r : InRange c) where
   -- a public key has 56 bytes, and k of them 56 * k

@@ -119,7 +119,7 @@ module _ (c : HonestSetup) (range : InRange c) (r : Run Network) (a : ℕ) (m : 
   room s low high = subst (RoomLeft c (o .log) (o .w) g′ s) (sym (left-so s)) (put .room s low high)
 
   -- what the Write needs to take it
-  in-range : keptFits (c .servers) (σ .kept) ≡ true
+  in-range : keptFits (settingsIn c a) (σ .kept) ≡ true
   in-range = fit-user c range (o .log) (o .w) (o .g) a (begunBy r a i) x one last (o .good) .kept-fit
 
   whole : longestTree ≤ length (who .lent .key .tree)

@@ -24,7 +24,7 @@ use Rattle.tree.proofs.Honest.{TrueAnswers, true-cover-gives-path}
 use Rattle.tree.proofs.Levels.{lg-below}
 use Rattle.tree.proofs.Paths.{path-bytes-length, path-whole}
 use Rattle.tree.proofs.Pieces.{piece-whole}
-use Rattle.user_list.specs.Users.{leastRequest, longestTree}
+use Rattle.user_list.specs.Users.{treeLength, leastRequest, longestTree}
 use Rattle.user.specs.declared.call.Kept.{Kept}
 use Rattle.user.specs.Asking.{userSettingsFit, keptFits, userFits, userSetupChecks, requestRoom}
 use Rattle.user.specs.Outcome.{State, stateOf, Lent, withHashes, withHeld, Outcome, refusal}
@@ -35,25 +35,26 @@ use Rattle.user_update.specs.declared.call.Update.{Update}
 use Rattle.user_update.specs.Update.{freshUpdate, updateGoes, updateTaken, arrived}
 use Rattle.user_update.proofs.UpdateRules.{endedWith}
 use Rattle.user_write.specs.declared.call.Write.{Write}
-use Rattle.user_write.specs.Write.{openedAt, targetFits, ownLeaf, heldEntry, freshWrite, writeRoom, writeStartChecks, writeStarted, writeAsks, writeWaits, openingChecks, opening, writeOpens, writeUpdates, writeGoes, writeTaken, withUpdate}
+use Rattle.user_write.specs.Write.{openedAt, targetFits, ownLeaf, heldEntry, freshWrite, writeRoom, numberLeft, writeStartChecks, writeStarted, writeAsks, writeWaits, openingChecks, opening, writeOpens, writeUpdates, writeGoes, writeTaken, withUpdate}
 use Rattle.whole_run.proofs.Requests.{entry-sizes, laid-length}
 use Rattle.honest_run.specs.Network.{HonestSetup, settingsIn}
 use Rattle.whole_run.specs.Runs.{set}
 use Rattle.honest_run.proofs.Invariant.{Item, texts, hashOf, OpenOk}
 use Rattle.honest_run.proofs.Log.{same-hash}
 use Rattle.honest_run.proofs.Frames.{set-same, set-other}
+use Rattle.honest_run.proofs.Keys.{tree-room, left-number}
 use Rattle.honest_run.proofs.Nodes.{cover-node}
 use Rattle.honest_run.proofs.Updates.{Arrived}
 
 -- the start of a Write
-module _ (s : Settings) (σ : State) (m : Lent) (entry : List ℕ) (settled : userSettingsFit s ≡ true) (in-range : keptFits (s .servers) (σ .kept) ≡ true)
+module _ (s : Settings) (σ : State) (m : Lent) (entry : List ℕ) (settled : userSettingsFit s ≡ true) (in-range : keptFits s (σ .kept) ≡ true)
     (room : leastRequest ≤ length (m .request)) (whole : longestTree ≤ length (m .key .tree)) (shaped : entryFits entry ≡ true) (ruled : rulesKept entry ≡ true) where
   -- 22, 21, 19 and 26 pass; 18 and 17 are left
   pub start-passes : (not (σ .kept .opened) || (not (σ .kept .progress .begun) && eqs (value (ownLeaf s entry)) (piece (σ .path) 0))) ≡ true
-      → ((σ .kept .opened && σ .kept .signed) || ltb (σ .kept .number) 1024) ≡ true → firstCode (writeStartChecks s σ m entry) ≡ 0
+      → ((σ .kept .opened && σ .kept .signed) || numberLeft s (σ .kept)) ≡ true → firstCode (writeStartChecks s σ m entry) ≡ 0
   unfolding writeStartChecks userSetupChecks userFits writeRoom requestRoom firstCode
   start-passes same spare =
-      rw (settled, in-range, le-leb leastRequest (length (m .request)) room, le-leb longestTree (length (m .key .tree)) (omega arith), same, shaped, ruled, spare)
+      rw (settled, in-range, le-leb leastRequest (length (m .request)) room, le-leb (treeLength (s .users) (s .own)) (length (m .key .tree)) (tree-room s _ whole), same, shaped, ruled, spare)
 
 -- the memory of a Write that starts
 abbrev pub holding : Lent → List ℕ → Lent
@@ -72,7 +73,7 @@ unfolding writeStarted
 passed-starts s σ m entry randomizer z = rw z
 
 -- with nothing open, an Update begins
-pub write-starts : (s : Settings) (σ : State) (m : Lent) (entry randomizer : List ℕ) → userSettingsFit s ≡ true → keptFits (s .servers) (σ .kept) ≡ true
+pub write-starts : (s : Settings) (σ : State) (m : Lent) (entry randomizer : List ℕ) → userSettingsFit s ≡ true → keptFits s (σ .kept) ≡ true
     → leastRequest ≤ length (m .request) → longestTree ≤ length (m .key .tree) → entryFits entry ≡ true → rulesKept entry ≡ true
     → σ .kept .opened ≡ false → σ .kept .number < 1024
     → writeStarted s σ m entry randomizer
@@ -82,7 +83,7 @@ write-starts s σ m entry randomizer settled in-range room whole shaped ruled sh
     passed-starts s σ m entry randomizer
     (start-passes s σ m entry settled in-range room whole shaped ruled
     (ap (λ (b : Bool). not b || (not (k .progress .begun) && eqs (value (ownLeaf s entry)) (piece (σ .path) 0))) shut)
-    (ap (λ (b : Bool). (b && k .signed) || ltb (k .number) 1024) shut ∙ lt-ltb (k .number) 1024 number))
+    (ap (λ (b : Bool). (b && k .signed) || numberLeft s k) shut ∙ left-number s k number))
     ∙ ap (startedWith s σ m entry randomizer) shut
 
 -- the entry that was laid into its buffer is the one that the call holds, whatever the call has come to

@@ -208,11 +208,11 @@ module _ (c : HonestSetup) (range : InRange c) (L : ℕ → Item) (w g : ℕ) (w
           ∙ open-record c range L w g (omega arith) (fit .items) (y .servers (owner n place top)) a one listed (owner n place top) within uncommitted refl
           (server-now (owner n place top) (s .0) (s .1))
 
-      shaped : (isAnswer record-want given ≡ true) × (answerCode given ≡ 8)
+      shaped : (isAnswer (settingsIn c a .users) record-want given ≡ true) × (answerCode given ≡ 8)
       unfolding ofNode isServerCode
       shaped =
           let s = owner-range n place top (omega (arith, range .two)) in
-          coded-answer record-want 8 (omega arith) (omega (arith, s, range .sixteen)) (omega arith) (omega (arith, lg-below place 20 (omega arith))) (omega arith) refl
+          coded-answer _ record-want 8 (omega arith) (omega (arith, s, range .sixteen)) (omega arith) (omega (arith, lg-below place 20 (omega arith))) (omega arith) refl
           (λ z. absurd (omega arith))
 
       takes-record : takenBy c y a (updating u) given ≡ asCall updating (refusal 11 given σ m u)
@@ -222,7 +222,7 @@ module _ (c : HonestSetup) (range : InRange c) (L : ℕ → Item) (w g : ℕ) (w
           ap (λ (τ : State). asCall updating (updateTaken (settingsIn c a) τ m u given)) (o .same)
           ∙ ap (asCall updating)
           (server-refuses (settingsIn c a) σ m u given 8 (fit .settings-fit) (fit .kept-fit) shut (o .memory .request)
-          (waits u (m .hashes) (o .on-way) (omega arith)) (subst (λ (z : Want). isAnswer z given ≡ true) (sym is-record) (shaped .0)) (shaped .1) (λ z. omega arith))
+          (waits u (m .hashes) (o .on-way) (omega arith)) (subst (λ (z : Want). isAnswer (settingsIn c a .users) z given ≡ true) (sym is-record) (shaped .0)) (shaped .1) (λ z. omega arith))
 
       record-step : (handedBy c y a .code ≡ 11) × (handedBy c y a .refusal ≡ 8)
       unfolding userStep stepped comesBack refused

@@ -41,7 +41,7 @@ fresh-read v i L hashes held =
     record { position = refl; text = λ h. absurd (omega arith); hashes-right = λ j h. absurd (omega arith) }
 
 -- 22, 21 and 24 pass, and what is checked after them decides
-checks-pass : (s : Settings) (k : Kept) (i : ℕ) (m : Lent) (cs : List Check) → userSettingsFit s ≡ true → keptFits (s .servers) k ≡ true → 1 ≤ i → i ≤ k .version
+checks-pass : (s : Settings) (k : Kept) (i : ℕ) (m : Lent) (cs : List Check) → userSettingsFit s ≡ true → keptFits s k ≡ true → 1 ≤ i → i ≤ k .version
     → leastRequest ≤ length (m .request) → 1024 ≤ length (m .entry) → firstCode (readChecks s k i m ++ cs) ≡ firstCode cs
 unfolding readChecks userSetupChecks userFits requestRoom firstCode
 checks-pass s k i m cs settings-fit kept-fit one iv room entry-room =
@@ -105,15 +105,15 @@ memory-collected r m body ok =
 
 -- an answer that passes 22, 21, 24, 10 and 11 is collected
 module _ (s : Settings) (σ : State) (m : Lent) (r : Read) (a body : List ℕ) (settings-fit : userSettingsFit s ≡ true)
-    (kept-fit : keptFits (s .servers) (σ .kept) ≡ true) (room : leastRequest ≤ length (m .request)) (entry-room : 1024 ≤ length (m .entry))
+    (kept-fit : keptFits s (σ .kept) ≡ true) (room : leastRequest ≤ length (m .request)) (entry-room : 1024 ≤ length (m .entry))
     (some : 1 ≤ r .position) (low : r .position ≤ σ .kept .version) (waits : r .answers < readCount (r .position) (σ .kept .version))
-    (shape : isAnswer (readWant (s .servers) (σ .kept .version) r) a ≡ true) (code : answerCode a ≡ 0) (is : answerBody a ≡ body) where
+    (shape : isAnswer (s .users) (readWant (s .servers) (σ .kept .version) r) a ≡ true) (code : answerCode a ≡ 0) (is : answerBody a ≡ body) where
   -- what is checked after 11 decides
   early-passed : (cs : List Check) → firstCode (readEarly s (σ .kept) r m a ++ cs) ≡ firstCode cs
   unfolding readEarly
   early-passed cs =
       rw append-assoc (checks-pass s (σ .kept) (r .position) m _ settings-fit kept-fit some low room entry-room
-      ∙ answer-passes _ _ a cs (lt-ltb (r .answers) (readCount (r .position) (σ .kept .version)) waits) shape code)
+      ∙ answer-passes _ _ _ a cs (lt-ltb (r .answers) (readCount (r .position) (σ .kept .version)) waits) shape code)
 
   abbrev next : Read
   next = readNext r body

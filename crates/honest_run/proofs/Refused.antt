@@ -98,7 +98,7 @@ module _ (s : Settings) (named : length (s .log) ≡ 16) (σ : State) where
       let code = firstCode (writeStartChecks s σ m entry) in
       by-cond (λ o. Pulls (asCall writing o)) (eqb code 0) _ _
       (λ e.
-      let room = and-true (requestRoom (m .request)) _ (setup-passed s (σ .kept) (writeRoom (m .key) (m .request)) _ (eqb-true code 0 e) .1) .0 in
+      let room = and-true (requestRoom (m .request)) _ (setup-passed s (σ .kept) (writeRoom s (m .key) (m .request)) _ (eqb-true code 0 e) .1) .0 in
       by-cond (λ o. Pulls (asCall writing o)) (σ .kept .opened) _ _ (λ t _ p. not-both (σ .kept .opened) t p)
       (λ _. write-goes (holding m entry) (freshWrite (σ .kept) entry randomizer) freshUpdate room))
       (λ e z. absurd (eqb-false code 0 e z))

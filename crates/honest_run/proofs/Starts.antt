@@ -29,16 +29,16 @@ use Rattle.honest_run.proofs.Steps.{on-way-from}
 
 -- what a user keeps is in range
 kept-fits : (c : HonestSetup) (L : ℕ → Item) (w g a : ℕ) (b : ℕ → List ℕ) (x : Network) → Good c L w g b x
-    → keptFits (c .servers) (x .users a .state .kept) ≡ true
+    → keptFits (settingsIn c a) (x .users a .state .kept) ≡ true
 kept-fits c L w g a b x good =
     let u = good .users-ok a in
     let k = x .users a .state .kept in
-    by-bool (λ t. k .opened ≡ t → keptFits (c .servers) k ≡ true) (k .opened)
+    by-bool (λ t. k .opened ≡ t → keptFits (settingsIn c a) k ≡ true) (k .opened)
     (λ _ e.
     let ok = u .open-ok e in
-    kept-fits-open (c .servers) k (omega (arith, ok .version, ok .within)) (u .number)
+    kept-fits-open (settingsIn c a) k (omega (arith, ok .version, ok .within)) (u .number)
     (subst (λ v. ProgressInRange (c .servers) (suc v) (k .signed) (k .progress)) (sym (ok .version)) (ok .progress)))
-    (λ _ e. kept-fits-shut (c .servers) k e (omega (arith, u .low, good .within)) (u .number)) refl
+    (λ _ e. kept-fits-shut (settingsIn c a) k e (omega (arith, u .low, good .within)) (u .number)) refl
 
 -- the user's settings, and what it keeps, are those of a user in this log
 pub fit-user : (c : HonestSetup) → InRange c → (L : ℕ → Item) (w g a : ℕ) (b : ℕ → List ℕ) (x : Network) → 1 ≤ a → a ≤ c .count → Good c L w g b x

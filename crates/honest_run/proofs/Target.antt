@@ -60,15 +60,15 @@ opens-code s σ m w o a =
 
 -- an Update that starts goes on
 update-goes : (s : Settings) (σ : State) (m : Lent) → updateStarted s σ m .step .code ≡ 0
-    → (updateStarted s σ m ≡ updateGoes s σ m freshUpdate) × (userSettingsFit s ≡ true) × (keptFits (s .servers) (σ .kept) ≡ true)
+    → (updateStarted s σ m ≡ updateGoes s σ m freshUpdate) × (userSettingsFit s ≡ true) × (keptFits s (σ .kept) ≡ true)
 unfolding updateStarted updateSetup userSetupChecks userFits refused
 update-goes s σ m =
     let code = firstCode (updateSetup s (σ .kept) (m .request)) in
     by-cond
-    (λ (o : Outcome Update). o .step .code ≡ 0 → (o ≡ updateGoes s σ m freshUpdate) × (userSettingsFit s ≡ true) × (keptFits (s .servers) (σ .kept) ≡ true))
+    (λ (o : Outcome Update). o .step .code ≡ 0 → (o ≡ updateGoes s σ m freshUpdate) × (userSettingsFit s ≡ true) × (keptFits s (σ .kept) ≡ true))
     (eqb code 0) _ _
     (λ e _.
-    let f = and-true (userSettingsFit s) (keptFits (s .servers) (σ .kept)) (check-passes 22 _ _ (λ z. omega arith) (eqb-true code 0 e) .0) in
+    let f = and-true (userSettingsFit s) (keptFits s (σ .kept)) (check-passes 22 _ _ (λ z. omega arith) (eqb-true code 0 e) .0) in
     (refl, f .0, f .1))
     (λ e z. absurd (eqb-false code 0 e z))
 
@@ -258,7 +258,7 @@ module _ (c : HonestSetup) (range : InRange c) (r : Run Network) (a : ℕ) (m : 
 
   -- what its start has passed, and that it goes on
   goes : (update ≡ updateGoes (settingsIn c a) (user .state) (holding m entry) freshUpdate) × (userSettingsFit (settingsIn c a) ≡ true)
-      × (keptFits (c .servers) (user .state .kept) ≡ true)
+      × (keptFits (settingsIn c a) (user .state .kept) ≡ true)
   goes = update-goes (settingsIn c a) (user .state) (holding m entry) accepted
 
   starts : start ≡ writeWaits (user .state) fresh update

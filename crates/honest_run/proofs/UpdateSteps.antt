@@ -34,7 +34,7 @@ use Rattle.honest_run.proofs.Status.{head-told, head-holds, status-ok}
 use Rattle.honest_run.proofs.Contents.{digest-back, record-holds, gives-own, gives-new}
 
 -- 22, 21 and 18 pass, and what is checked after them decides
-setup-passes : (s : Settings) (k : Kept) (buffer : List ℕ) (cs : List Check) → userSettingsFit s ≡ true → keptFits (s .servers) k ≡ true → k .opened ≡ false
+setup-passes : (s : Settings) (k : Kept) (buffer : List ℕ) (cs : List Check) → userSettingsFit s ≡ true → keptFits s k ≡ true → k .opened ≡ false
     → leastRequest ≤ length buffer → firstCode (updateSetup s k buffer ++ cs) ≡ firstCode cs
 unfolding updateSetup userSetupChecks userFits requestRoom firstCode
 setup-passes s k buffer cs settings-fit kept-fit shut room =
@@ -59,15 +59,15 @@ update-hashes-size n u body hashes =
 
 -- an answer that passes 22, 21, 18, 10 and 11, and whose contents pass, is taken
 module _ (s : Settings) (σ : State) (m : Lent) (u : Update) (a body : List ℕ)
-    (settings-fit : userSettingsFit s ≡ true) (kept-fit : keptFits (s .servers) (σ .kept) ≡ true) (shut : σ .kept .opened ≡ false) (room : leastRequest ≤ length (m .request))
-    (waits : updateEnded (s .servers) (σ .kept .version) u ≡ false) (shape : isAnswer (updateWant (s .servers) (σ .kept .version) u) a ≡ true)
+    (settings-fit : userSettingsFit s ≡ true) (kept-fit : keptFits s (σ .kept) ≡ true) (shut : σ .kept .opened ≡ false) (room : leastRequest ≤ length (m .request))
+    (waits : updateEnded (s .servers) (σ .kept .version) u ≡ false) (shape : isAnswer (s .users) (updateWant (s .servers) (σ .kept .version) u) a ≡ true)
     (code : answerCode a ≡ 0) (is : answerBody a ≡ body) where
   -- what is checked after 11 decides
   early-passed : (cs : List Check) → firstCode (updateEarly s (σ .kept) u (m .request) a ++ cs) ≡ firstCode cs
   unfolding updateEarly
   early-passed cs =
       let going : not (updateEnded (s .servers) (σ .kept .version) u) ≡ true = rw waits in
-      rw append-assoc (setup-passes s (σ .kept) (m .request) _ settings-fit kept-fit shut room ∙ answer-passes _ _ a cs going shape code)
+      rw append-assoc (setup-passes s (σ .kept) (m .request) _ settings-fit kept-fit shut room ∙ answer-passes _ _ _ a cs going shape code)
 
   -- where the contents pass too, the Update goes on
   pub taken-passed : firstCode (updateChecks s (σ .kept) u (updateNext (s .servers) u body) (updateHashes (s .servers) u body (m .hashes)) body) ≡ 0
@@ -77,13 +77,13 @@ module _ (s : Settings) (σ : State) (m : Lent) (u : Update) (a body : List ℕ)
 
 -- one with another code of a server's is refused by 11
 pub server-refuses : (s : Settings) (σ : State) (m : Lent) (u : Update) (a : List ℕ) (code : ℕ) → userSettingsFit s ≡ true
-    → keptFits (s .servers) (σ .kept) ≡ true → σ .kept .opened ≡ false → leastRequest ≤ length (m .request) → updateEnded (s .servers) (σ .kept .version) u ≡ false
-    → isAnswer (updateWant (s .servers) (σ .kept .version) u) a ≡ true → answerCode a ≡ code → (code ≡ 0 → ⊥) → updateTaken s σ m u a ≡ refusal 11 a σ m u
+    → keptFits s (σ .kept) ≡ true → σ .kept .opened ≡ false → leastRequest ≤ length (m .request) → updateEnded (s .servers) (σ .kept .version) u ≡ false
+    → isAnswer (s .users) (updateWant (s .servers) (σ .kept .version) u) a ≡ true → answerCode a ≡ code → (code ≡ 0 → ⊥) → updateTaken s σ m u a ≡ refusal 11 a σ m u
 unfolding updateTaken updateEarly answerChecks firstCode
 server-refuses s σ m u a code settings-fit kept-fit shut room waits shape is n =
     let going : not (updateEnded (s .servers) (σ .kept .version) u) ≡ true = rw waits in
     let other : eqb (answerCode a) 0 ≡ false = ne-eqb (answerCode a) 0 (λ z. n (sym is ∙ z)) in
-    let cs = answerChecks (not (updateEnded (s .servers) (σ .kept .version) u)) (updateWant (s .servers) (σ .kept .version) u) a in
+    let cs = answerChecks (s .users) (not (updateEnded (s .servers) (σ .kept .version) u)) (updateWant (s .servers) (σ .kept .version) u) a in
     let early : (rest : List Check) → firstCode ((updateSetup s (σ .kept) (m .request) ++ cs) ++ rest) ≡ 11 =
     λ rest. rw append-assoc (setup-passes s (σ .kept) (m .request) _ settings-fit kept-fit shut room ∙ rw (going, shape, other)) in
     rw early

@@ -17,7 +17,7 @@ use Rattle.tree.specs.Setup.{firstCode, Settings}
 use Rattle.tree.proofs.Cases.{by-bool, cases-eq}
 use Rattle.tree.proofs.Labels.{owner-range}
 use Rattle.tree.proofs.Levels.{lg-below}
-use Rattle.user_list.specs.Users.{leastRequest, longestTree}
+use Rattle.user_list.specs.Users.{treeLength, leastRequest, longestTree}
 use Rattle.user.specs.declared.call.Kept.{Kept}
 use Rattle.user.specs.Asking.{userSettingsFit, keptFits, userFits, userSetupChecks, requestRoom, ofNode, answerBodyFits, isAnswer, answerChecks, asking}
 use Rattle.user.specs.Outcome.{State, stateOf, Lent, withProgress, withKept, Outcome, nothing, ending, handingOut}
@@ -25,12 +25,12 @@ use Rattle.user.proofs.Ranges.{ProgressInRange, kept-in-range}
 use Rattle.firing.specs.Entry.{entryFits}
 use Rattle.firing.specs.Schedule.{rulesKept}
 use Rattle.user_write.specs.declared.call.Write.{Write}
-use Rattle.user_write.specs.Write.{openedAt, ownLeaf, pathDigest, heldEntry, freshWrite, commitNumber, writeKind, writeLevel, writeWant, writeBody, writeRoom, writeStarted, writeAsks, handing, signsNext, writeChecks, commitSignature, writeSignature, signing, committed, writeUpdates, writeGoes, writeTaken, goesOn}
+use Rattle.user_write.specs.Write.{openedAt, ownLeaf, pathDigest, heldEntry, freshWrite, commitNumber, writeKind, writeLevel, writeWant, writeBody, writeRoom, numberLeft, writeStarted, writeAsks, handing, signsNext, writeChecks, commitSignature, writeSignature, signing, committed, writeUpdates, writeGoes, writeTaken, goesOn}
 use Rattle.user_write.proofs.WriteRanges.{write-fits}
 use Rattle.honest_run.specs.Network.{HonestSetup, InRange, settingsIn}
 use Rattle.honest_run.proofs.Invariant.{Item, hashOf, digestOf, OpenOk, bodyAt}
 use Rattle.honest_run.proofs.Log.{hash-of-leaf}
-use Rattle.honest_run.proofs.Keys.{user-settings}
+use Rattle.honest_run.proofs.Keys.{user-settings, tree-room, left-number}
 use Rattle.honest_run.proofs.Answers.{right-answer}
 use Rattle.honest_run.proofs.Bodies.{level-low, kind-low, path-digest, body-is}
 use Rattle.honest_run.proofs.Opening.{start-passes, holding, startedWith, passed-starts}
@@ -64,30 +64,30 @@ pub asked-progress : (s : Settings) (σ τ : State) (m n : Lent) (call later : W
     → τ .kept .opened ≡ true → ProgressInRange (s .servers) (suc (τ .kept .version)) (τ .kept .signed) (τ .kept .progress)
 unfolding writeAsks asking
 asked-progress s σ τ m n call later a e opened =
-    let fits : keptFits (s .servers) (τ .kept) ≡ true =
-    subst (λ (o : Outcome Write). keptFits (s .servers) (o .state .kept) ≡ true) e
+    let fits : keptFits s (τ .kept) ≡ true =
+    subst (λ (o : Outcome Write). keptFits s (o .state .kept) ≡ true) e
     (write-fits s σ m call a (ap (λ (o : Outcome Write). o .step .code) e)) in
-    kept-in-range (s .servers) (τ .kept) fits .progress opened
+    kept-in-range s (τ .kept) fits .progress opened
 
 -- the answer to request j of the write of p
 abbrev pub accepts : ℕ → ℕ → ℕ → List ℕ
 accepts n p j = answer (writeKind p j) (writeWant n p j .server) p (writeLevel p j) 0 []
 
 -- it has no body
-no-body : (kind : ℕ) → 5 ≤ kind → answerBodyFits kind 0 ≡ true
+no-body : (users : List ℕ) (kind : ℕ) → 5 ≤ kind → answerBodyFits users kind [] ≡ true
 unfolding answerBodyFits
-no-body kind h =
+no-body users kind h =
     rw (ne-eqb kind 1 (λ e. omega arith), ne-eqb kind 2 (λ e. omega arith), ne-eqb kind 3 (λ e. omega arith), ne-eqb kind 4 (λ e. omega arith))
 
-accepted : (n p j : ℕ) → 2 ≤ n → n ≤ 16 → 0 < p → p ≤ 1048576
-    → (isAnswer (writeWant n p j) (accepts n p j) ≡ true) × (answerCode (accepts n p j) ≡ 0)
+accepted : (users : List ℕ) (n p j : ℕ) → 2 ≤ n → n ≤ 16 → 0 < p → p ≤ 1048576
+    → (isAnswer users (writeWant n p j) (accepts n p j) ≡ true) × (answerCode (accepts n p j) ≡ 0)
 unfolding writeWant ofNode
-accepted n p j two sixteen some few =
+accepted users n p j two sixteen some few =
     let kind = kind-low p j in
     let level = level-low p j some in
     let low : lg p ≤ 20 = lg-below p 20 few in
     let server = owner-range n p (writeLevel p j) (omega arith) in
-    right-answer (writeWant n p j) [] (omega (arith, kind .1)) (omega (arith, server .1)) (omega arith) (omega arith) (no-body (writeKind p j) (kind .0))
+    right-answer users (writeWant n p j) [] (omega (arith, kind .1)) (omega (arith, server .1)) (omega arith) (omega arith) (no-body users (writeKind p j) (kind .0))
 
 -- what is kept of a committed write: its position and its digest
 module _ (c : HonestSetup) (L : ℕ → Item) (w g a : ℕ) (entry : List ℕ) (σ : State) (ok : OpenOk c L w g a entry σ) where
@@ -103,7 +103,7 @@ module _ (c : HonestSetup) (L : ℕ → Item) (w g a : ℕ) (entry : List ℕ) (
 
 -- an open write of user a, and the memory that is lent to it
 module _ (c : HonestSetup) (r : InRange c) (L : ℕ → Item) (w g a : ℕ) (entry : List ℕ) (σ : State) (m : Lent)
-    (opened : σ .kept .opened ≡ true) (unbegun : σ .kept .progress .begun ≡ false) (in-range : keptFits (c .servers) (σ .kept) ≡ true) (ok : OpenOk c L w g a entry σ)
+    (opened : σ .kept .opened ≡ true) (unbegun : σ .kept .progress .begun ≡ false) (in-range : keptFits (settingsIn c a) (σ .kept) ≡ true) (ok : OpenOk c L w g a entry σ)
     (room : leastRequest ≤ length (m .request)) (whole : longestTree ≤ length (m .key .tree)) where
   abbrev k : Kept
   k = σ .kept
@@ -125,10 +125,10 @@ module _ (c : HonestSetup) (r : InRange c) (L : ℕ → Item) (w g a : ℕ) (ent
       ∙ sym (ok .path-ok 0 (omega arith) ∙ (let e : suc w - 1 ≡ w = omega arith in rw e at (hash-of-leaf L (suc w))))
 
   -- 17: it is signed, or a number is left
-  signed-or-spare : (k .signed || ltb (k .number) 1024) ≡ true
+  signed-or-spare : (k .signed || numberLeft s k) ≡ true
   signed-or-spare =
-      let Passes : Bool → Type 0 = λ b. (b || ltb (k .number) 1024) ≡ true in
-      by-bool Passes (k .signed) (λ _. refl) (λ e. lt-ltb (k .number) 1024 (ok .unsigned e .1))
+      let Passes : Bool → Type 0 = λ b. (b || numberLeft s k) ≡ true in
+      by-bool Passes (k .signed) (λ _. refl) (λ e. left-number s k (ok .unsigned e .1))
 
   -- "Resuming .. starts at Reserve without Update"
   pub write-resumes : (randomizer : List ℕ) → entryFits entry ≡ true → rulesKept entry ≡ true
@@ -140,7 +140,7 @@ module _ (c : HonestSetup) (r : InRange c) (L : ℕ → Item) (w g a : ℕ) (ent
       passed-starts s σ m entry randomizer
       (start-passes s σ m entry settled in-range room whole shaped ruled
       (ap (λ (b : Bool). not b || (not (k .progress .begun) && leaves)) opened ∙ same)
-      (ap (λ (b : Bool). (b && k .signed) || ltb (k .number) 1024) opened ∙ signed-or-spare))
+      (ap (λ (b : Bool). (b && k .signed) || numberLeft s k) opened ∙ signed-or-spare))
       ∙ ap (startedWith s σ m entry randomizer) opened
 
   -- an answer taken in: request w′ .answers was accepted
@@ -161,20 +161,20 @@ module _ (c : HonestSetup) (r : InRange c) (L : ℕ → Item) (w g a : ℕ) (ent
         ap₂ (λ (b d : Bool). b && (not d && leb (w′ .answers) (commitNumber (suc (k .version))))) opened unbegun
         ∙ le-leb (w′ .answers) (commitNumber (suc (k .version))) answers-few
 
-    is-accepted : (isAnswer (writeWant (c .servers) (suc (k .version)) (w′ .answers)) given ≡ true) × (answerCode given ≡ 0)
+    is-accepted : (isAnswer (s .users) (writeWant (c .servers) (suc (k .version)) (w′ .answers)) given ≡ true) × (answerCode given ≡ 0)
     is-accepted =
         let within = ok .within in
-        let x = accepted (c .servers) (suc w) (w′ .answers) (r .two) (r .sixteen) (omega arith) (omega arith) in
-        (ap (λ (v : ℕ). isAnswer (writeWant (c .servers) (suc v) (w′ .answers)) given) (ok .version) ∙ x .0, x .1)
+        let x = accepted (s .users) (c .servers) (suc w) (w′ .answers) (r .two) (r .sixteen) (omega arith) (omega arith) in
+        (ap (λ (v : ℕ). isAnswer (s .users) (writeWant (c .servers) (suc v) (w′ .answers)) given) (ok .version) ∙ x .0, x .1)
 
     -- 17: a signature that is made has a number
-    spare : (not (signsNext k w′) || ltb (k .number) 1024) ≡ true
+    spare : (not (signsNext k w′) || numberLeft s k) ≡ true
     unfolding signsNext
     spare =
         let now : Bool = eqb (suc (w′ .answers)) (commitNumber (suc (k .version))) in
-        let Passes : Bool → Type 0 = λ b. (not (now && not b) || ltb (k .number) 1024) ≡ true in
+        let Passes : Bool → Type 0 = λ b. (not (now && not b) || numberLeft s k) ≡ true in
         by-bool Passes (k .signed) (λ _. rw (and-false now))
-        (λ e. rw (lt-ltb (k .number) 1024 (ok .unsigned e .1)) (or-true (not (now && true))))
+        (λ e. rw (left-number s k (ok .unsigned e .1)) (or-true (not (now && true))))
 
     passes : firstCode (writeChecks s k m w′ given) ≡ 0
     unfolding writeChecks userSetupChecks userFits writeRoom requestRoom answerChecks firstCode
@@ -183,7 +183,7 @@ module _ (c : HonestSetup) (r : InRange c) (L : ℕ → Item) (w g a : ℕ) (ent
           settled,
           in-range,
           le-leb leastRequest (length (m .request)) room,
-          le-leb longestTree (length (m .key .tree)) (omega arith),
+          le-leb (treeLength (s .users) (s .own)) (length (m .key .tree)) (tree-room s _ whole),
           waits,
           is-accepted .0,
           eq-eqb (answerCode given) 0 (is-accepted .1),

@@ -23,7 +23,8 @@ use Rattle.tree.proofs.Cases.{and-true}
 use Rattle.tree.proofs.Messages.{be-one, request-position}
 use Rattle.tree.proofs.Pieces.{piece-length}
 use Rattle.tree.specs.Setup.{Settings}
-use Rattle.user_list.specs.Users.{leastRequest, longestCommit, longestSignature, longestTree}
+use Rattle.user_list.specs.Users.{treeLength, leastRequest, longestCommit, longestSignature, longestTree}
+use Rattle.user_list.proofs.Lists.{one-tree, one-count}
 use Rattle.user_update.specs.declared.call.Update.{Update}
 use Rattle.user_write.specs.declared.call.Write.{Write}
 use Rattle.user.specs.declared.ask.Want.{Want}
@@ -33,7 +34,9 @@ use Rattle.user_update.specs.Update.{updateWant}
 use Rattle.user_read.specs.declared.call.Read.{Read}
 use Rattle.user_read.specs.Read.{readWant}
 use Rattle.firing.specs.Entry.{entryFits}
-use Rattle.user_write.specs.Write.{commitNumber, pathDigest, writeKind, writeLevel, writeBody, heldEntry, writeRoom, signsNext, commitSignature, writeSignature}
+use Rattle.user_write.specs.Write.{commitNumber, pathDigest, writeKind, writeLevel, writeBody, heldEntry, writeRoom, numberLeft, signsNext}
+use Rattle.user_write.specs.Write.{commitSignature, writeSignature}
+use Rattle.user_write.proofs.WriteRules.{number-left}
 use Rattle.user.proofs.Passed.{by-cond, sent-is}
 
 -- a request's kind and position, read back; its other fields may be of any size
@@ -105,21 +108,24 @@ entry-sizes entry e =
     let short = and-true (leb (length entry) 1024) _ (some .1) in
     (leb-true 1 (length entry) (some .0), leb-true (length entry) 1024 (short .0))
 
-pub room-passed : (key : Key) (buffer : List ℕ) → writeRoom key buffer ≡ true → (leastRequest ≤ length buffer) × (longestTree ≤ length (key .tree))
+pub room-passed : (s : Settings) (key : Key) (buffer : List ℕ) → writeRoom s key buffer ≡ true
+    → (leastRequest ≤ length buffer) × (longestTree ≤ length (key .tree))
 unfolding writeRoom requestRoom
-room-passed key buffer e =
-    let x = and-true (requestRoom buffer) (leb longestTree (length (key .tree))) e in
-    (leb-true leastRequest (length buffer) (x .0), leb-true longestTree (length (key .tree)) (x .1))
+room-passed s key buffer e =
+    let whole = treeLength (s .users) (s .own) in
+    let x = and-true (requestRoom buffer) (leb whole (length (key .tree))) e in
+    let tree = leb-true whole (length (key .tree)) (x .1) in
+    (leb-true leastRequest (length buffer) (x .0), omega (arith, tree, one-tree (s .users) (s .own)))
 
 -- the signature that is kept or made has 2,508 bytes: 17 leaves it a number, 21 a tree
 pub signature-sized : (s : Settings) (σ : State) (key : Key) (w : Write) → length (σ .signature) ≡ longestSignature
-    → length (w .randomizer) ≡ 32 → longestTree ≤ length (key .tree) → not (signsNext (σ .kept) w) || ltb (σ .kept .number) 1024 ≡ true
+    → length (w .randomizer) ≡ 32 → longestTree ≤ length (key .tree) → not (signsNext (σ .kept) w) || numberLeft s (σ .kept) ≡ true
     → length (writeSignature s σ key w) ≡ longestSignature
 unfolding writeSignature commitSignature SignatureLength signatureSize treeSize
 signature-sized s σ key w z random long free =
     by-cond (λ (q : List ℕ). length q ≡ longestSignature) (signsNext (σ .kept) w) _ _
     (λ e.
-    let f = ltb-true (σ .kept .number) 1024 (rw e at free) in
+    let f : σ .kept .number < 1024 = omega (arith, number-left s (σ .kept) (rw e at free), one-count (s .users) (s .own)) in
     signature-length LMOTS_SHA256_N32_W4 LMS_SHA256_M32_H10 (key .id) (key .seed) (w .randomizer) _ (key .tree) (σ .kept .number) random f long)
     (λ e. z)
 
