@@ -24,14 +24,18 @@ plain-result-requires c κs = search needs
 same-length : tie.Need-same-length
 same-length c = search needs
 
+same-length-2 : tie.Need-same-length-2
+same-length-2 c = search needs
+
 returns : tie.Need-returns
 returns c =
     let c8 = c .before .before .before .before .before .before .before .before in
-    let write-of = c8 .before .before .before .before .before .before .before .write-of .ensures in
-    let kept-of = c8 .before .before .before .before .before .kept-of .ensures in
-    let the-take = c8 .take .ensures in
+    let c16 = c8 .before .before .before .before .before .before .before .before in
+    let write-of = c16 .before .write-of .ensures in
+    let kept-of = c8 .before .before .before .before .before .before .before .kept-of .ensures in
+    let take = c8 .before .before .take .ensures in
     let lay-kept = c .before .before .before .lay-kept .ensures in
-    λ entry. write-answered _ _ _ _ _ _ _ _ _ entry _ _ _ kept-of _ _ _ _ _ _ _ _ write-of the-take lay-kept (c .before .lay-write .ensures)
+    λ entry. write-answered _ _ _ _ _ _ _ _ _ entry _ _ _ kept-of _ _ _ _ _ _ _ _ write-of take lay-kept (c .before .lay-write .ensures)
     (c .plain-result .ensures)
 
 pub write-answer-spec : {M : Type 1} → statement M
@@ -45,4 +49,5 @@ write-answer-spec =
     lay-write-requires
     plain-result-requires
     same-length
+    same-length-2
     returns)
