@@ -16,6 +16,7 @@ use Rattle.tree.proofs.Cases.{and-true, by-bool, cases-le, not-both}
 use Rattle.tree.proofs.CheckLists.{check-passes}
 use Rattle.tree.proofs.Labels.{owner-range}
 use Rattle.tree.proofs.Pieces.{piece-length}
+use Rattle.user_list.proofs.Lists.{one-count}
 use Rattle.user.specs.declared.ask.Want.{Want}
 use Rattle.user.specs.declared.call.Kept.{Kept}
 use Rattle.user.specs.Asking.{userSetupChecks, requestRoom, ofNode, ofStatus, refused, done, asking}
@@ -224,7 +225,8 @@ module _ (s : Settings) where
           kept = record {
             digest = k .digest;
             version = k .version;
-            number = by-cond (λ x. x < 4294967296) (signsNext (σ .kept) w) _ _ (λ _. omega arith) (λ _. k .number);
+            number = by-cond (λ x. x < 4294967296) (signsNext (σ .kept) w) _ _
+                (λ _. omega (arith, one-count (s .users) (s .own))) (λ _. k .number);
           };
           call = record { update = f .update; random = f .random; short = f .short };
           out = node-served _ _ (omega arith);
