@@ -14,7 +14,7 @@ use Rattle.tree.specs.Level.{lg, isFull}
 use Rattle.tree.specs.Expr.{entryText}
 use Rattle.tree.specs.Message.{answerHeader, answer, answerCode, answerBody}
 use Rattle.tree.specs.Setup.{Check, firstCode}
-use Rattle.user_list.specs.Users.{userCount, groupFits, longestRecord}
+use Rattle.user_list.specs.Users.{userCount, groupFits, longestSignature}
 use Rattle.tree.proofs.Cases.{and-true, by-eqb, cases-le, cases-eq}
 use Rattle.user_list.proofs.Lists.{Group, group-fits}
 use Rattle.tree.proofs.Labels.{owner-range}
@@ -179,7 +179,7 @@ module _ (c : HonestSetup) (L : ℕ → Item) (w g : ℕ) (two : 2 ≤ c .server
         (omega arith, omega arith)
 
     -- author, digest and signature have 2,542
-    record-size : want .kind ≡ 4 → length body ≡ longestRecord
+    record-size : want .kind ≡ 4 → length body ≡ 34 + longestSignature
     unfolding RightBody
     record-size e =
         let h : 2 ≤ want .kind = omega arith in

@@ -8,6 +8,7 @@ use lib.ListN.{length, take, drop}
 use Rattle.lms.specs.Types.{LMOTS_SHA256_N32_W4, LMS_SHA256_M32_H10}
 use Rattle.lms.specs.Signature.{signatureSize}
 
+-- How many users the list has: its whole keys.
 unfoldable pub userCount : List ℕ → ℕ
 userCount users = length users / 56
 
@@ -30,15 +31,9 @@ groupFits n users = leb 2 n && (leb n 16 && listFits users)
 unfoldable pub signatureLength : List ℕ → ℕ → ℕ
 signatureLength users a = signatureSize LMOTS_SHA256_N32_W4 LMS_SHA256_M32_H10
 
--- The longest signature that a key may make, and with it the bodies of a Commit and of a Record, and the tree of such a key.
+-- The longest signature that a key may make, and the tree of such a key.
 abbrev pub longestSignature : ℕ
 longestSignature = 2508
-
-abbrev pub longestCommit : ℕ
-longestCommit = 2540
-
-abbrev pub longestRecord : ℕ
-longestRecord = 2542
 
 abbrev pub longestTree : ℕ
 longestTree = 65504
