@@ -20,7 +20,7 @@ use Rattle.tree.specs.Setup.{Settings}
 use Rattle.user.specs.Asking.{keptFits}
 use Rattle.user_calls.specs.Calls.{updating, writing, reading, givingUp}
 use Rattle.c_layout.specs.Mark.{markOf}
-use Rattle.c_layout.specs.User.{progressBytes, keptBytes, progressOf, marksFit, keptOf, updateBytes, updateOf, writeBytes, writeOf, readBytes, readOf, giveUpOf, callBytes, callOf}
+use Rattle.c_layout.specs.User.{progressBytes, keptBytes, progressOf, marksFit, keptOf, updateBytes, updateOf, writeOf, readOf, giveUpOf, callBytes, callOf}
 
 -- a mark
 pub mark-fits : (b : Bool) → leb (markOf b) 1 ≡ true
@@ -127,7 +127,7 @@ module _ (b : List ℕ) (w : Write) (rest : List ℕ) (d : length (w .update .di
   behind = markOf (w .opened) ∷ w .answers ∷ ((w .randomizer ++ be 2 (w .length)) ++ rest)
 
   is-behind : b ≡ (2 ∷ updateBytes (w .update)) ++ behind
-  unfolding callBytes writeBytes
+  unfolding callBytes
   is-behind = e ∙ append-assoc (2 ∷ updateBytes (w .update)) (markOf (w .opened) ∷ w .answers ∷ (w .randomizer ++ be 2 (w .length))) rest
 
   write-behind : drop 46 b ≡ behind
@@ -154,7 +154,7 @@ module _ (b : List ℕ) (w : Write) (rest : List ℕ) (d : length (w .update .di
 -- a Read
 pub read-decode-encode : (b : List ℕ) (r : Read) (rest : List ℕ) → b ≡ callBytes (reading r) ++ rest → r .position < 4294967296
     → r .length < 65536 → callOf b ≡ reading r
-unfolding callOf callBytes readOf readBytes
+unfolding callOf callBytes readOf
 read-decode-encode b r rest e hp hn =
     let laid : b ≡ 3 ∷ r .position / 16777216 % 256 ∷ r .position / 65536 % 256 ∷ r .position / 256 % 256 ∷ r .position % 256
     ∷ r .answers ∷ r .length / 256 % 256 ∷ r .length % 256 ∷ rest = e ∙ rw (be-four (r .position), be-two (r .length)) in

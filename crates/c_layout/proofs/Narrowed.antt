@@ -15,7 +15,7 @@ use Rattle.tree.specs.Inner.{settingsOf}
 use Rattle.user.specs.declared.call.Kept.{Kept}
 use Rattle.user.specs.Asking.{userSettingsFit, userFits}
 use Rattle.user.specs.Outcome.{State, Lent}
-use Rattle.user.specs.Settled.{settledCode, settledGiven}
+use Rattle.user.specs.Settled.{settledGiven}
 use Rattle.user_calls.specs.Calls.{Call, Input, stepped}
 use Rattle.user_calls.proofs.Refusals.{step-unfit}
 use Rattle.c_layout.specs.Inner.{configOf}
@@ -49,7 +49,7 @@ numbers-fit s t =
     (g .sixteen, omega (arith, g .few))
 
 settled-unfit : (s : Settings) (k : Kept) (p : ℕ) → userSettingsFit s ≡ false → settledGiven s k p ≡ record { code = 22; settled = false }
-unfolding settledGiven settledCode userFits firstCode
+unfolding settledGiven userFits firstCode
 settled-unfit s k p e = rw e
 
 -- a user's step and settled, with the numbers that are passed on and with those that are given

@@ -21,7 +21,7 @@ use Rattle.user_read.specs.declared.call.Read.{Read}
 use Rattle.user_give_up.specs.declared.call.GiveUp.{GiveUp}
 use Rattle.user_calls.specs.Calls.{updating, writing, reading, givingUp}
 use Rattle.c_layout.specs.Mark.{markOf}
-use Rattle.c_layout.specs.User.{progressBytes, keptBytes, progressOf, marksFit, keptOf, updateBytes, updateOf, writeBytes, writeOf, readBytes, readOf, giveUpOf, callBytes, keptAfter, callAfter}
+use Rattle.c_layout.specs.User.{progressBytes, keptBytes, progressOf, marksFit, keptOf, updateBytes, updateOf, writeOf, readOf, giveUpOf, callBytes, keptAfter, callAfter}
 
 -- a mark
 pub mark-yes : (b : Bool) → b ≡ true → 1 ≡ markOf b
@@ -145,7 +145,7 @@ rest-laid w n s₁ s₂ o lr en eo e₁ e₂ =
 pub write-left : (code : ℕ) (w : Write) (first rest after call left : List ℕ) → length first ≡ 46 → length rest ≡ 36 → first ≡ 2 ∷ updateBytes (w .update)
     → rest ≡ markOf (w .opened) ∷ w .answers ∷ (w .randomizer ++ be 2 (w .length)) → after ≡ written (replicate 82 0) 0 (first ++ rest)
     → left ≡ callAfter code after call → left ≡ callAfter code (callBytes (writing w)) call
-unfolding callBytes writeBytes
+unfolding callBytes
 write-left code w first rest after call left lf lr ef er ea e =
     let size : length (first ++ rest) ≡ 82 = simp length-append (omega arith) in
     let whole : after ≡ first ++ rest = ea ∙ written-whole (replicate 82 0) (first ++ rest) (omega (arith, length-replicate {A = ℕ} 82 0)) in
@@ -159,7 +159,7 @@ read-read b p n ep en = rw (ep, en)
 
 pub read-left : (code : ℕ) (r : Read) (p n call left : List ℕ) → p ≡ be 4 (r .position) → n ≡ be 2 (r .length)
     → left ≡ callAfter code (3 ∷ (elements p 0 4 ++ (r .answers ∷ elements n 0 2))) call → left ≡ callAfter code (callBytes (reading r)) call
-unfolding callBytes readBytes
+unfolding callBytes
 read-left code r p n call left ep en e =
     e ∙ ap₂ (λ (x y : List ℕ). callAfter code (3 ∷ (x ++ (r .answers ∷ y))) call) (number-elements 4 (r .position) p ep) (number-elements 2 (r .length) n en)
 

@@ -33,12 +33,13 @@ use Rattle.user_read.specs.Read.{readTaken}
 use Rattle.user_read.specs.Inner.{ReadYields}
 use Rattle.user_give_up.specs.GiveUp.{giveUpTaken}
 use Rattle.user_give_up.specs.Inner.{GiveUpYields}
-use Rattle.user_calls.specs.Calls.{Call, idle, updating, writing, reading, givingUp, answer, strayCode, taken, stepped}
+use Rattle.user_calls.specs.Calls.{Call, idle, updating, writing, reading, givingUp, answer, taken, stepped}
 use Rattle.user.proofs.Passed.{setup-coded}
 use Rattle.user_read.proofs.ReadAnswers.{read-state}
 use Rattle.user_give_up.proofs.GiveUpAnswers.{give-up-keeps}
 use Rattle.user_calls.proofs.Unchanged.{update-keeps, write-keeps}
-use Rattle.c_layout.specs.User.{keptOf, updateOf, writeOf, readOf, giveUpOf, callBytes, callOf, callAfter, keptAfter, keptBy, askedOf, UserLent, userLent, stateIn, lentIn, userLeft, answeredBy, userAnswered, UserYields}
+use Rattle.c_layout.specs.User.{keptOf, updateOf, writeOf, readOf, giveUpOf, callBytes, callOf, callAfter, keptAfter, keptBy}
+use Rattle.c_layout.specs.User.{askedOf, UserLent, userLent, stateIn, lentIn, userLeft, answeredBy, userAnswered, UserYields}
 use Rattle.c_layout.specs.Inner.{configOf}
 use Rattle.c_layout.specs.declared.using.Asked.{Asked}
 use Rattle.c_layout.proofs.Narrowed.{step-passed-on}
@@ -63,8 +64,8 @@ unfolding firstCode
 refused-10 = refl
 
 stray-coded : (s : Settings) (σ : State) (m : Lent) (room z : Bool) (setup code : ℕ) → room ≡ leb leastRequest (length (m .request))
-    → setup ≡ firstCode (userSetupChecks s (σ .kept) room) → z ≡ eqb setup 0 → code ≡ cond z 10 setup → code ≡ strayCode s σ m
-unfolding strayCode requestRoom
+    → setup ≡ firstCode (userSetupChecks s (σ .kept) room) → z ≡ eqb setup 0 → code ≡ cond z 10 setup → code ≡ firstCode (userSetupChecks s (σ .kept) (requestRoom (m .request)) ++ (on 10 false ∷ []))
+unfolding requestRoom
 stray-coded s σ m room z setup code eo es ez ec =
     let x = leb leastRequest (length (m .request)) in
     let checks = userSetupChecks s (σ .kept) x in

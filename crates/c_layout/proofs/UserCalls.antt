@@ -29,7 +29,9 @@ use Rattle.user_give_up.proofs.GiveUpAnswers.{give-up-start-keeps}
 use Rattle.user_calls.specs.Calls.{Call, updating, writing, reading, givingUp, Input, startUpdate, startWrite, startRead, startGiveUp, asCall, stepped}
 use Rattle.user_calls.proofs.Unchanged.{update-start-finds, write-start-finds}
 use Rattle.c_layout.specs.Mark.{markOf}
-use Rattle.c_layout.specs.User.{keptOf, callBytes, callOf, callAfter, keptAfter, askedOf, UserLent, userLent, stateIn, lentIn, userLeft, userBegun, updateBegun, readBegun, writeBegun, giveUpBegun, Begins, WriteBegins, GiveUpBegins, settledAnswer}
+use Rattle.c_layout.specs.User.{keptOf, callBytes, callOf, callAfter, keptAfter, askedOf, UserLent, userLent}
+use Rattle.c_layout.specs.User.{stateIn, lentIn, userLeft, userBegun, updateBegun, readBegun, writeBegun}
+use Rattle.c_layout.specs.User.{giveUpBegun, Begins, WriteBegins, GiveUpBegins, settledAnswer}
 use Rattle.c_layout.specs.Inner.{configOf}
 use Rattle.c_layout.specs.declared.using.Asked.{Asked}
 use Rattle.c_layout.specs.declared.using.SettledAnswer.{SettledAnswer}

@@ -21,7 +21,8 @@ use Rattle.user_read.specs.declared.call.Read.{Read}
 use Rattle.user_give_up.specs.declared.call.GiveUp.{GiveUp}
 use Rattle.user_calls.specs.Calls.{Call, idle, updating, writing, reading, givingUp, Input, startUpdate, startWrite, startRead, startGiveUp, answer, asCall, taken, stepped}
 use Rattle.user_read.proofs.ReadAnswers.{read-state}
-use Rattle.c_layout.specs.User.{keptBytes, keptOf, updateBytes, writeBytes, readBytes, callBytes, callOf, callAfter, keptAfter, keptBy, askedOf, UserLent, userLent, stateIn, lentIn, userLeft, userBegun, giveUpBegun}
+use Rattle.c_layout.specs.User.{keptBytes, keptOf, updateBytes, callBytes, callOf, callAfter, keptAfter}
+use Rattle.c_layout.specs.User.{keptBy, askedOf, UserLent, userLent, stateIn, lentIn, userLeft, userBegun, giveUpBegun}
 use Rattle.c_layout.proofs.Inverses.{mark-read, kept-decode-encode, update-decode-encode, write-decode-encode, read-decode-encode, give-up-decode-encode}
 use Rattle.whole_run.proofs.Starts.{update-start, read-start, give-up-start, write-start}
 use Rattle.c_runs.specs.Bytes.{UserBytes, stepOf, outcomeOf, begun, called}
@@ -35,7 +36,7 @@ update-length u f =
     simp length-append (omega (arith, be-length 4 (u .greatest), be-length 4 (u .least), be-length 4 (u .position)))
 
 call-length : (c : Call) → CallFits c → length (callBytes c) ≤ 82
-unfolding callBytes writeBytes readBytes
+unfolding callBytes
 call-length idle f = absurd f
 call-length (updating u) f = omega (arith, update-length u f)
 call-length (writing w) f =

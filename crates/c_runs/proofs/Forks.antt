@@ -9,11 +9,11 @@ use Rattle.server.specs.declared.Head.{Head}
 use Rattle.server.specs.Serve.{served}
 use Rattle.c_layout.specs.Server.{headOf, resultOf, serverAnswered}
 use Rattle.whole_run.specs.World.{Setup, settingsFor, Event, User, userStep, dropped}
-use Rattle.whole_run.specs.Runs.{Server, serverAfter, serverEvents, World, Step, user, drops, server, newServer, NewWorld, newWorld, withUser, withServer, step, run}
+use Rattle.whole_run.specs.Runs.{Server, serverAfter, serverEvents, World, Step, user, drops, server, newServer, NewWorld, withUser, withServer, step, run}
 use Rattle.fork_bound.specs.Fair.{Premises, FairStep, Fair, asMessages}
 use Rattle.fork_bound.specs.Claim.{BoundHolds, ForkBound}
 use Rattle.fork_bound.proofs.Fork.{fork-bound}
-use Rattle.c_runs.specs.Bytes.{UserBytes, userOf, userCalled, callDropped, serverBytesAfter, NewBytes, newServerBytes}
+use Rattle.c_runs.specs.Bytes.{UserBytes, userOf, userCalled, callDropped, serverBytesAfter, newServerBytes}
 use Rattle.c_runs.specs.Runs.{ByteWorld, serverOf, worldOf, callStep, byteRun}
 use Rattle.c_runs.specs.Claim.{ByteForkBound}
 use Rattle.c_runs.proofs.Users.{Laid, user-same, user-laid}
@@ -61,7 +61,7 @@ module _ (g : Setup) (H : ℕ) (p : Premises) (w : ByteWorld) (h : Holds g w) wh
   users-on a u l b = by-eqb (λ t. Laid (settingsFor g b) (cond t u (w .users b))) b a (λ e. rw e l) (λ _. h .users b)
 
   step-holds : (x : Step) → FairStep g H p (worldOf w) x → Holds g (callStep g w x)
-  unfolding worldOf callStep FairStep serverBytesAfter
+  unfolding worldOf callStep withUser withServer FairStep serverBytesAfter
   step-holds (user a i) f =
       let u = w .users a in
       let l = user-laid (settingsFor g a) u (h .users a) i (f .0) in
@@ -80,17 +80,17 @@ module _ (g : Setup) (H : ℕ) (p : Premises) (w : ByteWorld) (h : Holds g w) wh
       }
 
 -- the new world that the zero bytes stand for
-abbrev pub zeroWorld : NewBytes → NewWorld
+abbrev pub zeroWorld : NewWorld → NewWorld
 zeroWorld b = record { users = zeroUser b; servers = zeroServer b }
 
-module _ (g : Setup) (H : ℕ) (p : Premises) (b : NewBytes) where
+module _ (g : Setup) (H : ℕ) (p : Premises) (b : NewWorld) where
   abbrev stood : List Step → World
   stood xs = worldOf (byteRun g b xs)
 
-  zero-same : stood [] ≡ newWorld (zeroWorld b)
-  unfolding worldOf serverOf byteRun newServer newWorld newServerBytes
+  zero-same : stood [] ≡ run g (zeroWorld b) []
+  unfolding worldOf serverOf byteRun run newServer newServerBytes
   zero-same =
-      ap₂ (λ (us : ℕ → User) (ks : ℕ → Head). record { users = us; servers = λ s. record { head = ks s; store = b .store s; used = 0 }; log = [] })
+      ap₂ (λ (us : ℕ → User) (ks : ℕ → Head). record { users = us; servers = λ s. record { head = ks s; store = b .servers s .store; used = 0 }; log = [] })
       (fun-ext (λ a. user-zero b a)) (fun-ext (λ s. head-zero b s))
 
   all-hold : (xs : List Step) → Fair g H p stood xs → Holds g (byteRun g b xs)

@@ -13,12 +13,12 @@ use Rattle.user_calls.specs.Calls.{Input, startUpdate, startWrite, startRead, s
 use Rattle.server.specs.declared.Head.{Head}
 use Rattle.c_layout.specs.Server.{headOf, resultOf, serverAnswered}
 use Rattle.whole_run.specs.World.{Sent, User, returned, userStep}
-use Rattle.whole_run.specs.Runs.{Server, newServer, serverAfter, Sized}
+use Rattle.whole_run.specs.Runs.{Server, newServer, NewWorld, serverAfter, Sized}
 use Rattle.honest_run.specs.Network.{HonestSetup, settingsIn, publicTo, Network, reply, answerBytes, arrives, steps, comesBack}
 use Rattle.honest_run.specs.Network.{inRecords, networkAfter, handed, Act, calls, Run, wrote, doAct, newNetwork, runOf, runSeen}
 use Rattle.honest_run.specs.Claim.{ValidInput, ValidCall, countOf, AllValid, NotRefused, Serves, SameHeads, BringsBack, CallsServe, HonestRun, Valid, Refused}
 use Rattle.honest_run.proofs.Theorem.{honest-run}
-use Rattle.c_runs.specs.Bytes.{UserBytes, userOf, stepOf, called, userCalled, serverBytesAfter, NewBytes, newServerBytes}
+use Rattle.c_runs.specs.Bytes.{UserBytes, userOf, stepOf, called, userCalled, serverBytesAfter, newServerBytes}
 use Rattle.c_runs.specs.Runs.{ByteNetwork, serverOf, networkOf, replyBytes, byteArrives, byteAnswer, byteSteps, inBytes, zeroNetwork}
 use Rattle.c_runs.specs.Claim.{AllSized, ByteHonestRun}
 use Rattle.c_runs.proofs.Users.{Laid, user-same, user-laid, step-same, refusal-same}
@@ -185,7 +185,7 @@ module _ (c : HonestSetup) (r : Run ByteNetwork) (h : Holds c (r .network)) (a :
       let hv = after-holds c w h a i sized k in
       by-bool (λ t. Holds c (cond t (byteArrives c v a) v)) late (λ _. arrives-hold c v hv a) (λ _. hv)
 
-module _ (c : HonestSetup) (b : NewBytes) where
+module _ (c : HonestSetup) (b : NewWorld) where
   abbrev calls-run : List Act → Run ByteNetwork
   calls-run xs = runOf (inBytes c) (zeroNetwork b) xs
 
@@ -196,7 +196,7 @@ module _ (c : HonestSetup) (b : NewBytes) where
   unfolding runOf zeroNetwork newServer newNetwork networkOf serverOf newServerBytes
   zero-same =
       ap₂ (λ (us : ℕ → User) (hs : ℕ → Head). record {
-        network = record { users = us; servers = λ s. record { head = hs s; store = b .store s; used = 0 } };
+        network = record { users = us; servers = λ s. record { head = hs s; store = b .servers s .store; used = 0 } };
         log = [];
         begun = λ a. [];
       })
@@ -228,7 +228,7 @@ sized-before [] ys z = z
 sized-before (calls a i k late ∷ zs) ys z = sized-before zs ys (z .1)
 
 -- what a give-up brings back, at each earlier place of the list
-module _ (c : HonestSetup) (b : NewBytes) (xs : List Act) (sized : AllSized xs) (x : Network) where
+module _ (c : HonestSetup) (b : NewWorld) (xs : List Act) (sized : AllSized xs) (x : Network) where
   brings-same : (i : Input) → BringsBack c (runFrom c (zeroWorld b)) xs x i → BringsBack c (stood c b) xs x i
   unfolding BringsBack
   brings-same (startUpdate m) f = tt

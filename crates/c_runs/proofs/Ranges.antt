@@ -28,11 +28,12 @@ use Rattle.user_update.proofs.UpdateRules.{Above, Taken, by-taken, by-goes, fre
 use Rattle.user_update.proofs.UpdateAnswers.{stays-above, taken-over}
 use Rattle.user_update.proofs.Updates.{told-short}
 use Rattle.user_write.specs.declared.call.Write.{Write}
-use Rattle.user_write.specs.Write.{pathDigest, signsNext, writeWant, writeAsks, writeWaits, writeRoom, writeStartChecks, freshWrite, writeStarted, opening, signing, committed, goesOn, writeUpdates, writeGoes, writeTaken}
+use Rattle.user_write.specs.Write.{pathDigest, signsNext, writeWant, writeAsks, writeWaits, writeRoom, writeStartChecks, freshWrite}
+use Rattle.user_write.specs.Write.{writeStarted, opening, signing, committed, goesOn, writeUpdates, writeGoes, writeTaken}
 use Rattle.user_write.proofs.WriteRules.{by-going, by-opening}
 use Rattle.user_write.proofs.WriteAnswers.{by-updating, write-opens, committed-over}
 use Rattle.user_read.specs.declared.call.Read.{Read}
-use Rattle.user_read.specs.Read.{readWant, readChecks, readCount, freshRead, readAsks, readEnds, readNext, readCollected, readStarted, readTaken}
+use Rattle.user_read.specs.Read.{readWant, readChecks, readCount, readAt, readAsks, readEnds, readNext, readCollected, readStarted, readTaken}
 use Rattle.user_read.proofs.ReadRules as Reads
 use Rattle.user_read.proofs.ReadAnswers.{read-state, read-place, read-ends}
 use Rattle.user_give_up.specs.declared.call.GiveUp.{GiveUp}
@@ -358,7 +359,7 @@ module _ (s : Settings) where
         (λ e z. absurd (eqb-false _ 0 e z))
 
     pub read-begins : (i : ℕ) → Begins σ m (asCall reading (readStarted s σ m i))
-    unfolding readStarted readChecks readAsks freshRead refused asking
+    unfolding readStarted readChecks readAsks refused asking
     read-begins i =
         let P : Outcome Read → Type 0 = λ o. Begins σ m (asCall reading o) in
         by-cond P (eqb (firstCode (readChecks s (σ .kept) i m)) 0) _ _
@@ -372,7 +373,7 @@ module _ (s : Settings) where
             fits = record {
               kept = k;
               call = record { position = omega arith; short = omega arith };
-              out = read-served (σ .kept .version) (freshRead i) (omega arith);
+              out = read-served (σ .kept .version) (readAt i 0) (omega arith);
               key = refl;
             };
             above = λ _. tt;

@@ -15,35 +15,35 @@ use Rattle.user_calls.specs.Calls.{taken}
 use Rattle.c_layout.specs.User.{progressOf, marksFit, keptOf, callOf}
 use Rattle.c_layout.specs.Server.{earlierOf, headOf}
 use Rattle.whole_run.specs.World.{dropped}
-use Rattle.whole_run.specs.Runs.{NewUser, NewServer, newUser, newHead}
+use Rattle.whole_run.specs.Runs.{NewUser, NewServer, newUser, newServer, NewWorld}
 use Rattle.fork_bound.proofs.Events.{stray}
-use Rattle.c_runs.specs.Bytes.{UserBytes, userOf, cleared, callDropped, NewBytes, newUserBytes, newServerBytes}
+use Rattle.c_runs.specs.Bytes.{UserBytes, userOf, cleared, callDropped, newUserBytes, newServerBytes}
 use Rattle.c_runs.proofs.Users.{Laid}
 use Rattle.c_runs.proofs.Servers.{HeadSmall}
 
-abbrev pub zeroUser : NewBytes → ℕ → NewUser
+abbrev pub zeroUser : NewWorld → ℕ → NewUser
 zeroUser b a =
     record {
       digest = replicate 32 0;
-      path = b .path a;
-      signature = b .signature a;
-      path-size = b .path-size a;
-      signature-size = b .signature-size a;
+      path = b .users a .path;
+      signature = b .users a .signature;
+      path-size = b .users a .path-size;
+      signature-size = b .users a .signature-size;
     }
 
-abbrev pub zeroServer : NewBytes → ℕ → NewServer
-zeroServer b s = record { author = 0; digest = replicate 32 0; store = b .store s; digest-size = length-replicate {A = ℕ} 32 0 }
+abbrev pub zeroServer : NewWorld → ℕ → NewServer
+zeroServer b s = record { author = 0; digest = replicate 32 0; store = b .servers s .store; digest-size = length-replicate {A = ℕ} 32 0 }
 
-pub user-zero : (b : NewBytes) (a : ℕ) → userOf (newUserBytes b a) ≡ newUser (zeroUser b a)
+pub user-zero : (b : NewWorld) (a : ℕ) → userOf (newUserBytes b a) ≡ newUser (zeroUser b a)
 unfolding userOf newUserBytes newUser keptOf marksFit progressOf noProgress numberAt
 user-zero b a = refl
 
-pub head-zero : (b : NewBytes) (s : ℕ) → headOf (newServerBytes b s .head) ≡ newHead (zeroServer b s)
-unfolding headOf earlierOf newServerBytes newHead noneEarlier numberAt
+pub head-zero : (b : NewWorld) (s : ℕ) → headOf (newServerBytes b s .head) ≡ newServer (zeroServer b s) .head
+unfolding headOf earlierOf newServerBytes newServer noneEarlier numberAt
 head-zero b s = refl
 
-pub head-zero-small : (b : NewBytes) (s : ℕ) → HeadSmall (headOf (newServerBytes b s .head))
-unfolding newHead noneEarlier
+pub head-zero-small : (b : NewWorld) (s : ℕ) → HeadSmall (headOf (newServerBytes b s .head))
+unfolding newServer noneEarlier
 head-zero-small b s =
     subst HeadSmall (sym (head-zero b s))
     (record {
@@ -56,7 +56,7 @@ none-over : (s : Settings) (σ : State) (m : Lent) (a : List ℕ) → taken s σ
 unfolding callOf taken refused
 none-over s σ m a = stray s σ m
 
-pub laid-zero : (s : Settings) (b : NewBytes) (a : ℕ) → Laid s (newUserBytes b a)
+pub laid-zero : (s : Settings) (b : NewWorld) (a : ℕ) → Laid s (newUserBytes b a)
 unfolding newUserBytes keptOf marksFit numberAt
 laid-zero s b a =
     record {

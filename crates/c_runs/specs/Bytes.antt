@@ -1,20 +1,20 @@
 -- Users and servers as C callers keep them, in bytes, and what a call of an exported function makes of them.
-use mathlib.Core.Path.{_≡_}
 use mathlib.Core.Bool.{cond}
 use mathlib.Core.List.{List, []}
 use Prim.Native.Nat.{ℕ}
 use lib.Dec.{eqb}
-use lib.ListN.{length, replicate}
+use lib.ListN.{replicate}
 use Rattle.tree.specs.Setup.{Settings}
-use Rattle.user_list.specs.Users.{longestSignature}
 use Rattle.user.specs.declared.call.Step.{Step}
 use Rattle.user.specs.declared.call.Found.{Found}
 use Rattle.user.specs.Outcome.{Key, keyOf, Lent, Outcome}
 use Rattle.user_calls.specs.Calls.{Call, idle, Input, startUpdate, startWrite, startRead, startGiveUp, answer}
 use Rattle.c_layout.specs.declared.using.Asked.{Asked}
-use Rattle.c_layout.specs.User.{UserLent, userLent, stateIn, lentIn, callOf, UserOutcome, updateBegun, writeBegun, readBegun, giveUpBegun, userAnswered}
+use Rattle.c_layout.specs.User.{UserLent, userLent, stateIn, lentIn, callOf, UserOutcome, updateBegun}
+use Rattle.c_layout.specs.User.{writeBegun, readBegun, giveUpBegun, userAnswered}
 use Rattle.c_layout.specs.Server.{ServerOutcome}
 use Rattle.whole_run.specs.World.{Sent, noneOut, Reading, User, after}
+use Rattle.whole_run.specs.Runs.{NewWorld}
 
 -- What the caller of a user's functions keeps from call to call: the bytes that it lends them, and the key. Noted of it are its last
 -- request, the end of its accepted view, and what it has read.
@@ -94,18 +94,11 @@ unfoldable pub serverBytesAfter : ServerOutcome → ServerBytes
 serverBytesAfter o = record { head = o .head; store = o .store; used = o .result .used }
 
 -- Callers begin with zero bytes (include/kozbrax.h): "all zero for a new user", its call's too, and a server's head "all zero at first".
--- The contents of path, signature and store are free.
-pub record NewBytes : Type 0 where
-  pub path : ℕ → List ℕ
-  pub signature : ℕ → List ℕ
-  pub store : ℕ → List ℕ
-  pub path-size : (a : ℕ) → length (path a) ≡ 672
-  pub signature-size : (a : ℕ) → length (signature a) ≡ longestSignature
-
-unfoldable pub newUserBytes : NewBytes → ℕ → UserBytes
+-- Path, signature and store have the contents that a new world leaves free, so what it says of a digest and of a head's author plays no part.
+unfoldable pub newUserBytes : NewWorld → ℕ → UserBytes
 newUserBytes b a =
-    let bytes = userLent (replicate 46 0) (b .path a) (b .signature a) (replicate 82 0) [] [] [] [] in
+    let bytes = userLent (replicate 46 0) (b .users a .path) (b .users a .signature) (replicate 82 0) [] [] [] [] in
     record { bytes = bytes; key = keyOf [] [] []; sent = noneOut; view = 0; reads = [] }
 
-unfoldable pub newServerBytes : NewBytes → ℕ → ServerBytes
-newServerBytes b s = record { head = replicate 79 0; store = b .store s; used = 0 }
+unfoldable pub newServerBytes : NewWorld → ℕ → ServerBytes
+newServerBytes b s = record { head = replicate 79 0; store = b .servers s .store; used = 0 }

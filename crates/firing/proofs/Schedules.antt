@@ -13,7 +13,8 @@ use Rattle.sha256.proofs.Cases.{by-bool}
 use Rattle.firing.specs.declared.segment.Segment.{Segment}
 use Rattle.firing.specs.declared.schedule.Firing.{Firing}
 use Rattle.firing.specs.Entry.{strikes, isSchedule, entryFits}
-use Rattle.firing.specs.Schedule.{segmentOf, segmentsIn, segmentCount, segments, laidOut, segmentFits, segmentsFit, segmentMinutes, total, peak, start, scheduleFits, rulesKept, reportCode, unreported, reported}
+use Rattle.firing.specs.Schedule.{segmentOf, segmentsIn, segmentCount, segments, laidOut, segmentFits, segmentsFit, segmentMinutes}
+use Rattle.firing.specs.Schedule.{total, peak, start, scheduleFits, rulesKept, reportCode, unreported, reported}
 use Rattle.firing.proofs.Segments.{keeps-rules, segment-most}
 
 -- the highest of three

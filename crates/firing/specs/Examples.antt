@@ -53,7 +53,8 @@ reports : (reported bisque ≡ record { code = 0; minutes = 718; peak = 950 })
     × (reportCode (3 ∷ 1 ∷ 0 ∷ 7 ∷ 0 ∷ 21 ∷ 0 ∷ []) ≡ 26)
     × (reportCode (1 ∷ 65 ∷ []) ≡ 26)
     × (reportCode (2 ∷ 0 ∷ 0 ∷ 0 ∷ 7 ∷ 0 ∷ []) ≡ 19)
-unfolding reported reportCode scheduleFits laidOut segments segmentsIn segmentCount segmentOf segmentsFit segmentFits signFits segmentMinutes roundedUp change sameSign total peak twosComplement numberAt entryFits strikes isSchedule
+unfolding reported reportCode scheduleFits laidOut segments segmentsIn segmentCount segmentOf segmentsFit segmentFits signFits
+    segmentMinutes roundedUp change sameSign total peak twosComplement numberAt entryFits strikes isSchedule
 reports = (refl, refl, refl, refl, refl, refl, refl, refl)
 
 -- 26 in a Write: a text passes, a schedule with no segment does not.
@@ -75,5 +76,7 @@ warm-reports : (warmReported bisque 0 40 ≡ record { code = 0; least = 706; gre
     × (warmCode bisque 1351 1351 ≡ 32)
     × (warmCode (3 ∷ 0 ∷ []) 40 39 ≡ 26)
     × (warmCode (2 ∷ 0 ∷ 0 ∷ 0 ∷ 7 ∷ 0 ∷ []) 40 39 ≡ 19)
-unfolding warmReported warmCode startsFit overStarts combinedFrom signFits reportCode scheduleFits laidOut segments segmentsIn segmentCount segmentOf segmentsFit segmentFits segmentMinutes roundedUp change sameSign total twosComplement numberAt entryFits strikes isSchedule
+unfolding warmReported warmCode startsFit overStarts combinedFrom signFits reportCode scheduleFits laidOut segments segmentsIn
+    segmentCount segmentOf segmentsFit segmentFits segmentMinutes roundedUp change sameSign total twosComplement numberAt entryFits
+    strikes isSchedule
 warm-reports = (refl, refl, refl, refl, refl, refl, refl, refl, refl, refl, refl)

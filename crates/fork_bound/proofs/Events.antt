@@ -1,8 +1,8 @@
 -- What is noted of a user's step: the request that it hands out, strings that were hashed, a Record that was accepted, and what an open
 -- write signs.
 use mathlib.Core.Path.{_≡_, refl}
-use mathlib.Core.Bool.{Bool, true, cond}
-use mathlib.Core.List.{List, [], _++_, map, List·Memᴰ}
+use mathlib.Core.Bool.{Bool, true, false, cond}
+use mathlib.Core.List.{List, [], _∷_, _++_, map, List·Memᴰ}
 use mathlib.Core.Logic.{_⊎_, inl, inr}
 use Prim.Native.Nat.{ℕ, suc}
 use native.Mathlib.Omega.{arith}
@@ -12,11 +12,11 @@ use Rattle.tree.specs.Level.{lg}
 use Rattle.tree.specs.Expr.{strings}
 use Rattle.tree.specs.Cover.{coverPath}
 use Rattle.tree.specs.Message.{signedText}
-use Rattle.tree.specs.Setup.{Settings, firstCode}
+use Rattle.tree.specs.Setup.{Settings, on, firstCode}
 use Rattle.tree.proofs.Cases.{not-both}
 use Rattle.user.specs.declared.call.Kept.{Kept}
 use Rattle.user.specs.declared.call.Step.{Step}
-use Rattle.user.specs.Asking.{requestRoom}
+use Rattle.user.specs.Asking.{userSetupChecks, requestRoom}
 use Rattle.user.specs.Outcome.{State, Lent, Outcome}
 use Rattle.user.proofs.Passed.{setup-passed, by-cond}
 use Rattle.user_update.specs.declared.call.Update.{Update}
@@ -24,13 +24,15 @@ use Rattle.user_write.specs.declared.call.Write.{Write}
 use Rattle.user_write.specs.Write.{ownLeaf, pathDigest, heldEntry, signsNext, writeGoes, writeTaken}
 use Rattle.user_read.specs.declared.call.Read.{Read}
 use Rattle.user_read.specs.Read.{readOver}
-use Rattle.user_calls.specs.Calls.{Call, idle, updating, writing, reading, givingUp, Input, startUpdate, startWrite, startRead, startGiveUp, answer, strayCode, taken, stepped}
-use Rattle.whole_run.specs.World.{Event, hashed, signed, accepted, handedOut, User, sentBy, coverStrings, recordAccepted, updateEvents, openingHashed, writeSigned, writeEvents, readEvents, answerEvents, acceptedEvents, handedEvents, eventsOf, userStep}
+use Rattle.user_calls.specs.Calls.{Call, idle, updating, writing, reading, givingUp, Input, startUpdate, startWrite, startRead, startGiveUp, answer, taken, stepped}
+use Rattle.whole_run.specs.World.{Event, hashed, signed, accepted, handedOut, User, sentBy, coverStrings, recordAccepted}
+use Rattle.whole_run.specs.World.{updateEvents, openingHashed, writeSigned, writeEvents, readEvents, answerEvents}
+use Rattle.whole_run.specs.World.{acceptedEvents, handedEvents, eventsOf, userStep}
 use Rattle.fork_bound.proofs.Noted.{Every, every-none, every-cons, every-append, every-cond, every-hashed}
 
 -- an answer where no request is out is refused
-pub stray : (s : Settings) (σ : State) (m : Lent) → strayCode s σ m ≡ 0 → ⊥
-unfolding strayCode firstCode
+pub stray : (s : Settings) (σ : State) (m : Lent) → firstCode (userSetupChecks s (σ .kept) (requestRoom (m .request)) ++ (on 10 false ∷ [])) ≡ 0 → ⊥
+unfolding firstCode
 stray s σ m z = let x = setup-passed s (σ .kept) (requestRoom (m .request)) _ z .2 in omega arith
 
 -- what holds of each string hashed and each Record accepted holds of all but signatures

@@ -22,7 +22,7 @@ use Rattle.user.proofs.Passed.{by-cond}
 use Rattle.server.specs.declared.Head.{Head}
 use Rattle.store.specs.Shape.{requestBodyFits}
 use Rattle.store.specs.Store.{records}
-use Rattle.server.specs.Checks.{serverSetupChecks, requestChecks, recordFound, pullSource}
+use Rattle.server.specs.Checks.{serverSetupChecks, recordFound, pullSource}
 use Rattle.server.specs.Serve.{noneEarlier, asEarlier, reservedHead, broughtBack, headerGiven, bodyGiven, answerGiven, ServeOutcome, refusedSetup, served}
 use Rattle.server.proofs.Codes.{request-codes}
 use Rattle.server.proofs.Served.{rs, code, given, served-passed, served-refused}
@@ -30,7 +30,7 @@ use Rattle.server.proofs.Theorems.{Heads, reserved-or-same, refusal-keeps-all, 
 use Rattle.server.proofs.After.{reserved-higher, reserved-again, accepted-setup, accepted-code, accepted-fits}
 use Rattle.server.proofs.GiveUps.{reserve-is-head, give-up-is-heads, give-up-brings-back}
 use Rattle.whole_run.specs.World.{Event, answered, Noted}
-use Rattle.whole_run.specs.Runs.{NewServer, newHead, serverEvents}
+use Rattle.whole_run.specs.Runs.{NewServer, newServer, serverEvents}
 use Rattle.fork_bound.specs.Fair.{Account, Belongs, InTime}
 use Rattle.whole_run.proofs.Answers.{all-given}
 use Rattle.fork_bound.proofs.Order.{noted-in, noted-below, noted-later, noted-before}
@@ -58,7 +58,6 @@ module _ (s : Settings) (h : Head) (store : List ℕ) (used : ℕ) (q buffer : L
   noted-of H = serverEvents H q (after .out .answered) (after .answer)
 
   small-code : code s h store used q buffer < 256
-  unfolding requestChecks
   small-code =
       let rs = records (s .users) (take used store) in
       elim (request-codes s h (recordFound rs q) (pullSource rs q) (length store - used) q) [ inl l ↦ omega (arith, l) | inr e ↦ omega (arith, e) ]
@@ -159,20 +158,28 @@ timely-later H account es log k q small t = (
   λ i j r x five l n b. t .2 i j r x five l (noted-then es log j _ (omega arith) n) (belongs-then H account es log _ j i r (omega arith) b),
 )
 
--- steps of users and of other servers: the head stays, and no answer of H's is new
-pub logged-later : (H : ℕ) (account : Account) (h : Head) (es log : List Event) → ((q a : List ℕ) → List·Memᴰ (answered H q a) es → ⊥)
-    → Logged H account h log → Logged H account h (es ++ log)
-logged-later H account h es log none k =
+-- a head that stays, where what stands now stood before
+stays-logged : (H : ℕ) (account : Account) (h : Head) (log longer : List Event) → Logged H account h log
+    → ((a p : ℕ) (δ : List ℕ) → Stands H longer a p δ → Stands H log a p δ)
+    → ((k : ℕ) (q y : List ℕ) → Noted longer k (answered H q y) → requestKind q ≡ 9 → answerCode y ≡ 0 → Timely H account longer k q)
+    → Logged H account h longer
+stays-logged H account h log longer k stood fair =
     record {
       whole = k .whole;
       earlier-whole = k .earlier-whole;
       past = λ a p δ x. k .past a p δ (stood a p δ x);
       before = λ e a p δ x. k .before e a p δ (stood a p δ x);
       same = λ a b p δ ε x y. k .same a b p δ ε (stood a p δ x) (stood b p ε y);
-      fair = λ j q y n e z.
-          let m = old j q y n in
-          timely-later H account es log j q (omega (arith, noted-below log j _ m)) (k .fair j q y m e z);
+      fair = fair;
     }
+
+-- steps of users and of other servers: the head stays, and no answer of H's is new
+pub logged-later : (H : ℕ) (account : Account) (h : Head) (es log : List Event) → ((q a : List ℕ) → List·Memᴰ (answered H q a) es → ⊥)
+    → Logged H account h log → Logged H account h (es ++ log)
+logged-later H account h es log none k =
+    stays-logged H account h log (es ++ log) k stood
+    (λ j q y n e z.
+    let m = old j q y n in timely-later H account es log j q (omega (arith, noted-below log j _ m)) (k .fair j q y m e z))
   where
     old : (j : ℕ) (q y : List ℕ) → Noted (es ++ log) j (answered H q y) → Noted log j (answered H q y)
     old j q y n = elim (noted-before es log j _ n) [ inl x ↦ x | inr x ↦ absurd (none q y (x .0)) ]
@@ -248,15 +255,7 @@ module _ (H : ℕ) (account : Account) (h : Head) (log : List Event) (s : Settin
 
   -- nothing is reserved now, and the head stays
   stays : (call .out .code ≡ 0 → requestKind q ≡ 5 → ⊥) → Goes h
-  stays none =
-      record {
-        whole = k .whole;
-        earlier-whole = k .earlier-whole;
-        past = λ a p δ x. k .past a p δ (old a p δ x);
-        before = λ e a p δ x. k .before e a p δ (old a p δ x);
-        same = λ a b p δ ε x y. k .same a b p δ ε (old a p δ x) (old b p ε y);
-        fair = fair-now;
-      }
+  stays none = stays-logged H account h log longer k old fair-now
     where
       old : (a p : ℕ) (δ : List ℕ) → Stands H longer a p δ → Stands H log a p δ
       old a p δ x = elim (split a p δ x) [ inl y ↦ y .0 | inr y ↦ absurd (none (y .1) (y .0 .0)) ]
@@ -367,8 +366,8 @@ module _ (H : ℕ) (account : Account) (h : Head) (log : List Event) (s : Settin
       (λ m. subst Goes (sym (head-changes-only-by-reserve-or-give-up s h store used q buffer (λ _. n) (λ _. m))) (stays (λ _. n)))))
       (λ n. subst Goes (sym (refusal-keeps-all s h store used q buffer n .0)) (stays (λ z _. n z)))
 
-pub logged-first : (H : ℕ) (account : Account) (b : NewServer) → Logged H account (newHead b) []
-unfolding newHead noneEarlier
+pub logged-first : (H : ℕ) (account : Account) (b : NewServer) → Logged H account (newServer b .head) []
+unfolding newServer noneEarlier
 logged-first H account b =
     record {
       whole = b .digest-size;

@@ -8,8 +8,8 @@ use native.Mathlib.Omega.{arith}
 use lib.Dec.{eqb, leb}
 use lib.ListN.{length, take}
 use borrow.Author.Tests.{eqb-true, eqb-false, leb-true}
-use Rattle.tree.specs.Bytes.{written}
-use Rattle.tree.specs.Expr.{entryText}
+use Rattle.tree.specs.Bytes.{eqs, written}
+use Rattle.tree.specs.Expr.{entryText, value}
 use Rattle.tree.specs.Setup.{firstCode, Settings}
 use Rattle.tree.proofs.Cases.{and-true}
 use Rattle.tree.proofs.Agree.{AllIn, Sized}
@@ -20,7 +20,7 @@ use Rattle.user.specs.declared.call.Kept.{Kept}
 use Rattle.user.specs.Asking.{userSetupChecks, requestRoom, refused, done, asking}
 use Rattle.user.specs.Outcome.{Lent, Outcome}
 use Rattle.user_read.specs.declared.call.Read.{Read}
-use Rattle.user_read.specs.Read.{readWant, readChecks, freshRead, readAsks, readStarted, heldText, textAuthor, textEntry, textLeaf, readNext, readCollected, readOver, readGives, readEnds, readTaken}
+use Rattle.user_read.specs.Read.{readWant, readChecks, readAt, readAsks, readStarted, heldText, textAuthor, textEntry, textLeaf, readNext, readCollected, readOver, readEnds, readTaken}
 use Rattle.user.proofs.Passed.{setup-passed, by-cond}
 use Rattle.user_read.proofs.ReadRules.{by-taken, next, collected, next-small, handed, held-small, read-given}
 use Rattle.user_read.proofs.Texts.{author-low, author-of-text, entry-of-text}
@@ -53,7 +53,7 @@ module _ (W : Whole) (own : ℕ) (u : User) (ok : UserOk W own u) where
 
   -- what a Read that gives the digest has read is in every history with that digest
   read-ok : Known W → (k : Kept) (r : Read) (hashes held : List ℕ) → 1 ≤ r .position → r .position ≤ k .version
-      → readGives k r hashes held ≡ true → AllIn (Hashed W) (readOver (k .version) r hashes held)
+      → eqs (value (readOver (k .version) r hashes held)) (k .digest) ≡ true → AllIn (Hashed W) (readOver (k .version) r hashes held)
       → ReadOk W (k .version) (k .digest)
       (record { position = r .position; author = textAuthor (heldText r held); entry = textEntry (heldText r held) })
   unfolding readOver textLeaf
@@ -71,7 +71,7 @@ module _ (W : Whole) (own : ℕ) (u : User) (ok : UserOk W own u) where
       }
 
   ends-ok : (m : Lent) (r : Read) → 1 ≤ r .position → r .position ≤ u .state .kept .version → r .length ≤ 1026 → 1024 ≤ length (m .entry)
-      → readGives (u .state .kept) r (m .hashes) (m .held) ≡ true → Keeps (readEnds (u .state) m r)
+      → eqs (value (readOver (u .state .kept .version) r (m .hashes) (m .held))) (u .state .kept .digest) ≡ true → Keeps (readEnds (u .state) m r)
   unfolding after readEnds done returned viewAfter newReads readEvents sentBy
   ends-ok m r some within small room e _ f =
       let k = u .state .kept in
@@ -110,11 +110,11 @@ module _ (W : Whole) (own : ℕ) (u : User) (ok : UserOk W own u) where
 
   pub read-started-ok : (m : Lent) (p : ℕ) → readStarted s (u .state) m p .step .code ≡ 0
       → UserOk W own (after u (asCall reading (readStarted s (u .state) m p)))
-  unfolding readStarted readChecks userSetupChecks refused freshRead
+  unfolding readStarted readChecks userSetupChecks refused
   read-started-ok m p =
       let code = firstCode (readChecks s (u .state .kept) p m) in
       by-cond (λ o. o .step .code ≡ 0 → UserOk W own (after u (asCall reading o))) (eqb code 0) _ _
       (λ e _.
       let room = setup-passed s (u .state .kept) (requestRoom (m .request) && leb 1024 (length (m .entry))) _ (eqb-true code 0 e) .1 in
-      asks-ok m (freshRead p) (and-true (requestRoom (m .request)) _ room .0) (omega arith))
+      asks-ok m (readAt p 0) (and-true (requestRoom (m .request)) _ room .0) (omega arith))
       (λ e z. absurd (eqb-false code 0 e z))

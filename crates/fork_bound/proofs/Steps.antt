@@ -11,7 +11,7 @@ use Rattle.tree.proofs.Cases.{by-eqb, not-both}
 use Rattle.server.specs.Serve.{served}
 use Rattle.user_calls.specs.Calls.{Input}
 use Rattle.whole_run.specs.World.{settingsFor, Event, hashed, signed, accepted, handedOut, answered, User, userStep, dropped}
-use Rattle.whole_run.specs.Runs.{World, Step, user, drops, server, NewWorld, newUser, newServer, newWorld, set, withUser, withServer, serverEvents, step, run, serverAfter}
+use Rattle.whole_run.specs.Runs.{World, Step, user, drops, server, NewWorld, newUser, newServer, set, withUser, withServer, serverEvents, step, run, serverAfter}
 use Rattle.fork_bound.specs.Fair.{Premises, FairStep, Fair, InTime, asMessages}
 use Rattle.fork_bound.proofs.Noted.{Whole, Within, within-left, within-right, Every, every-none, every-cons, every-cond}
 use Rattle.fork_bound.proofs.Histories.{Signed}
@@ -102,7 +102,8 @@ module _ (W : Whole) where
       (λ n. logged-later H (W .account) _ es (w .log) (λ r x m. n (only-answers s q _ _ (answered H r x) m)) k)
 
   holds-server : (w : World) (s : ℕ) (q buffer : List ℕ) → FairStep (W .group) H fairness w (server s q buffer) → Holds w
-      → Holds (withServer w s q (served (settingsFor (W .group) s) (w .servers s .head) (w .servers s .store) (w .servers s .used) q buffer))
+      → let l = served (settingsFor (W .group) s) (w .servers s .head) (w .servers s .store) (w .servers s .used) q buffer in
+      Holds (withServer w s (serverAfter l) (serverEvents s q (l .out .answered) (l .answer)))
   unfolding withServer
   holds-server w s q buffer fair h =
       let b = w .servers s in
@@ -149,7 +150,7 @@ module _ (W : Whole) where
 
   pub all-hold : (b : NewWorld) (xs : List Step) → Fair (W .group) H fairness (run (W .group) b) xs → Within W (run (W .group) b xs .log)
       → Holds (run (W .group) b xs)
-  unfolding run newWorld newServer step withUser withServer Fair FairStep
+  unfolding run newServer step withUser withServer Fair FairStep
   all-hold b [] fair f =
       record {
         users = new-ok b;

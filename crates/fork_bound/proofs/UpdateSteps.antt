@@ -22,7 +22,9 @@ use Rattle.user.specs.Asking.{requestRoom, refused, done, asking}
 use Rattle.user.specs.Outcome.{State, withKept, Lent, withHashes, Outcome}
 use Rattle.user_update.specs.declared.call.Update.{Update}
 use Rattle.user_update.specs.Update.{freshUpdate, updateWant, updateNext, updateHashes, updateEnded, updateAnswers, updateSetup, updateStarted, updateTaken, arrived}
-use Rattle.user_update.proofs.UpdateRules.{Taken, by-taken, by-goes, endedWith, goingOn, next-answers, next-above, later-position, later-digest, status-small, counted, last-hash, own-given, new-given, answers-least, fresh-waits}
+use Rattle.user_update.proofs.UpdateRules.{Taken, by-taken, by-goes, endedWith, goingOn, next-answers, next-above, later-position}
+use Rattle.user_update.proofs.UpdateRules.{later-digest, status-small, counted, last-hash, own-given, new-given, answers-least}
+use Rattle.user_update.proofs.UpdateRules.{fresh-waits}
 use Rattle.user_update.proofs.UpdateAnswers.{arrives-at}
 use Rattle.user.proofs.Passed.{setup-passed, by-cond}
 use Rattle.user_calls.specs.Calls.{updating, asCall}

@@ -11,7 +11,7 @@ use Rattle.tree.specs.Setup.{Settings}
 use Rattle.user.proofs.Passed.{by-cond}
 use Rattle.user_calls.specs.Calls.{Call, idle, updating, writing, reading, givingUp, Input, startUpdate, startWrite, startRead, startGiveUp, answer, taken, stepped}
 use Rattle.whole_run.specs.World.{Setup, settingsFor, handedOut, answered, User, returned, after, userStep, dropped}
-use Rattle.whole_run.specs.Runs.{World, Step, user, drops, server, NewWorld, newUser, newWorld, withUser, withServer, serverEvents, step, run}
+use Rattle.whole_run.specs.Runs.{World, Step, user, drops, server, NewWorld, newUser, withUser, withServer, serverEvents, step, run}
 use Rattle.fork_bound.specs.Fair.{FairInput, FairStep, Fair, Account, SinceGiveUps, Gave, asMessages, anyEarlier, withoutGiveUps}
 use Rattle.whole_run.proofs.Refusals.{refused-step, accepted-step}
 use Rattle.fork_bound.specs.Claim.{StartsNone, NoGiveUp, ForkBound, BoundWithoutGiveUps}
@@ -105,7 +105,7 @@ module _ (g : Setup) (named : length (g .log) ≡ 16) (H : ℕ) (account : Accou
   -- So every list without give-ups is one of the claim's.
   all-fair : (xs : List Step) → NoGiveUp xs → Fair g H (withoutGiveUps H) (run g b) xs
       → Fair g H (asMessages H account) (run g b) xs × None (run g b xs)
-  unfolding NoGiveUp Fair FairStep withoutGiveUps run newWorld newUser step withUser withServer dropped
+  unfolding NoGiveUp Fair FairStep withoutGiveUps run newUser step withUser withServer dropped
   all-fair [] n h = (tt, record { calls = λ a x. x; handed = λ a s r m _. List·Memᴰ·not-nil m })
   all-fair (user a i ∷ xs) n h =
       let ih = all-fair xs (n .1) (h .1) in

@@ -16,7 +16,8 @@ use Rattle.user.specs.Asking.{userSetupChecks, requestRoom, ofNode, refused, do
 use Rattle.user.specs.declared.call.Kept.{Kept}
 use Rattle.user.specs.Outcome.{State, withKept, Lent, Outcome, nothing, ending}
 use Rattle.user_write.specs.declared.call.Write.{Write}
-use Rattle.user_write.specs.Write.{openedAt, commitNumber, pathDigest, writeKind, writeWant, writeBody, heldEntry, writeAsks, writeRoom, signsNext, writeChecks, writeSignature, signing, committed, goesOn, writeGoes}
+use Rattle.user_write.specs.Write.{openedAt, commitNumber, pathDigest, writeKind, writeWant, writeBody, heldEntry, writeAsks}
+use Rattle.user_write.specs.Write.{writeRoom, signsNext, writeChecks, writeSignature, signing, committed, goesOn, writeGoes}
 use Rattle.user.proofs.Passed.{setup-passed, answer-passed, or-cases, by-cond}
 use Rattle.user_write.proofs.WriteRules.{signs-last, Going, by-going, reserve-sent}
 use Rattle.user_calls.specs.Calls.{writing, asCall}

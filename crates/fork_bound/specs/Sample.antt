@@ -128,5 +128,5 @@ GivenUp =
     × (Ru.run group zeros-first closes .users 1 .state .kept .opened ≡ false)
 
 pub write-given-up : Asked × Reserved × GivenUp
-unfolding Le.leastFrom Le.reaches Le.lg Le.isFull Le.highestFull La.nodesTo La.label La.serverOf La.owner Ex.entryText Ex.leafString Ex.pairString Ex.halfString Ex.value Tr.tree Tr.blockOf Tr.node Co.fits Co.tileLevel Co.tilesIn Co.tiles Co.peaks Co.cover Co.piece Co.cut Co.covers Co.nodesBefore Co.fromCover Co.coverDigest Co.coverPath Co.pathBytes Co.pathWritten Me.requestHeader Me.request Me.answerHeader Me.answer Me.recordHeader Me.stored Me.signedText Us.userCount Us.userKey Us.isListed Us.listFits Us.groupFits Us.signatureLength Us.treeLength Us.signatureCount Tz.treeSize Si.signatureSize Se.inLog Se.firstCode By.be By.numberAt By.written By.eqs As.userSettingsFit As.progressFits As.openFits As.keptFits As.userFits As.userSetupChecks As.requestRoom As.ofNode As.ofStatus As.asks As.headed As.answerBodyFits As.isServerCode As.isAnswer As.answerChecks As.refused As.done As.asking Ou.noProgress Ou.nothing Up.freshUpdate Up.updateAnswers Up.updateEnded Up.updateWant Up.toldPosition Up.toldLevel Up.toldLabel Up.headHolds Up.statusTaken Up.updateNext Up.updateHashes Up.recordHolds Up.coverGivesOwn Up.coverGivesNew Up.updateChecks Up.arrived Up.updateGoes Up.updateSetup Up.updateStarted Up.updateEarly Up.updateTaken En.strikes En.isSchedule En.entryFits Fi.rulesKept Wr.targetFits Wr.ownLeaf Wr.commitNumber Wr.writeKind Wr.writeLevel Wr.writeWant Wr.pathDigest Wr.writeBody Wr.heldEntry Wr.writeAsks Wr.writeWaits Wr.writeRoom Wr.numberLeft Wr.writeStartChecks Wr.freshWrite Wr.writeStarted Wr.openingChecks Wr.handing Wr.opening Wr.writeOpens Wr.writeUpdates Wr.signsNext Wr.writeChecks Wr.commitSignature Wr.writeSignature Wr.goesOn Wr.signing Wr.committed Wr.writeGoes Wr.writeTaken Sh.levelFits Sh.nodeFits Sh.isStoredKind Sh.requestBodyFits Sh.kindFits Ch.requestFits Sh.recordFits St.recordLength St.recordsIn St.records St.sizes St.whole St.isFor St.first St.isStored Ch.serverSettingsFit Ch.placeFits Ch.earlierFits Ch.headFits Ch.storeFits Ch.ownsNode Ch.isHeads Ch.reservable Ch.isGivable Ch.holdsHead Ch.commitHolds St.recordAsked Ch.recordFound Ch.noOther Ch.roomLeft Ch.nodeSource Ch.pullSource Ch.kindChecks Ch.serverSetupChecks Ch.checksOver Ch.requestChecks Sv.noneEarlier Sv.asEarlier Sv.reservedHead Sv.broughtBack Sv.headAfter Sv.appends Sv.storeAfter Sv.usedAfter Sv.nodeHash Sv.recordGiven Sv.bodyGiven Sv.headerGiven Sv.answerGiven Sv.refusedSetup Sv.served Wo.sentBy Wo.returned Wo.viewSent Wo.viewAfter Wo.newReads Wo.after Wo.coverStrings Wo.recordAccepted Wo.updateEvents Wo.openingHashed Wo.writeSigned Wo.writeEvents Wo.readEvents Wo.answerEvents Wo.acceptedEvents Wo.handedEvents Wo.eventsOf Wo.userStep Ca.strayCode Ca.taken Ca.stepped Ru.newUser Ru.newHead Ru.newServer Ru.newWorld Ru.serverAfter Ru.withUser Ru.serverEvents Ru.withServer Ru.step Ru.run ¬32 SHL SHR ROTR Ch Maj Σ0 Σ1 σ0 σ1 K H0 nextW schedule T1 T2 round rounds sums compress zeros padding pad words block hashValue bytes sha256 Gi.sentTo Gi.firstTold Gi.nextTold Gi.giveUpWant Gi.waiting Gi.noGiveUp Gi.giveUpSetup Gi.giveUpChecks Gi.beginning Gi.told Gi.closed Gi.giveUpGoes Gi.giveUpStarted Gi.giveUpTaken
+unfolding Le.leastFrom Le.lg Le.isFull Le.highestFull La.nodesTo La.label La.serverOf La.owner Ex.entryText Ex.leafString Ex.pairString Ex.halfString Ex.value Tr.tree Tr.blockOf Tr.node Co.fits Co.tileLevel Co.tilesIn Co.tiles Co.peaks Co.cover Co.piece Co.cut Co.covers Co.nodesBefore Co.fromCover Co.coverDigest Co.coverPath Co.pathBytes Co.pathWritten Me.requestHeader Me.request Me.answerHeader Me.answer Me.recordHeader Me.stored Me.signedText Us.userCount Us.userKey Us.isListed Us.listFits Us.groupFits Us.signatureLength Us.treeLength Us.signatureCount Tz.treeSize Si.signatureSize Se.inLog Se.firstCode By.be By.numberAt By.written By.eqs As.userSettingsFit As.progressFits As.openFits As.keptFits As.userFits As.userSetupChecks As.requestRoom As.ofNode As.ofStatus As.asks As.headed As.answerBodyFits As.isServerCode As.isAnswer As.answerChecks As.refused As.done As.asking Ou.noProgress Ou.nothing Up.freshUpdate Up.updateAnswers Up.updateEnded Up.updateWant Up.toldPosition Up.toldLevel Up.toldLabel Up.headHolds Up.statusTaken Up.updateNext Up.updateHashes Up.recordHolds Up.coverGivesOwn Up.coverGivesNew Up.updateChecks Up.arrived Up.updateGoes Up.updateSetup Up.updateStarted Up.updateEarly Up.updateTaken En.strikes En.isSchedule En.entryFits Fi.rulesKept Wr.targetFits Wr.ownLeaf Wr.commitNumber Wr.writeKind Wr.writeLevel Wr.writeWant Wr.pathDigest Wr.writeBody Wr.heldEntry Wr.writeAsks Wr.writeWaits Wr.writeRoom Wr.numberLeft Wr.writeStartChecks Wr.freshWrite Wr.writeStarted Wr.openingChecks Wr.handing Wr.opening Wr.writeOpens Wr.writeUpdates Wr.signsNext Wr.writeChecks Wr.commitSignature Wr.writeSignature Wr.goesOn Wr.signing Wr.committed Wr.writeGoes Wr.writeTaken Sh.levelFits Sh.nodeFits Sh.isStoredKind Sh.requestBodyFits Sh.kindFits Ch.requestFits Sh.recordFits St.recordLength St.recordsIn St.records St.sizes St.whole St.isFor St.first St.isStored Ch.serverSettingsFit Ch.placeFits Ch.earlierFits Ch.headFits Ch.storeFits Ch.ownsNode Ch.isHeads Ch.reservable Ch.isGivable Ch.holdsHead Ch.commitHolds St.recordAsked Ch.recordFound Ch.noOther Ch.roomLeft Ch.nodeSource Ch.pullSource Ch.kindChecks Ch.serverSetupChecks Ch.requestChecks Sv.noneEarlier Sv.asEarlier Sv.reservedHead Sv.broughtBack Sv.headAfter Sv.appends Sv.storeAfter Sv.usedAfter Sv.nodeHash Sv.recordGiven Sv.bodyGiven Sv.headerGiven Sv.answerGiven Sv.refusedSetup Sv.served Wo.sentBy Wo.returned Wo.viewSent Wo.viewAfter Wo.newReads Wo.after Wo.coverStrings Wo.recordAccepted Wo.updateEvents Wo.openingHashed Wo.writeSigned Wo.writeEvents Wo.readEvents Wo.answerEvents Wo.acceptedEvents Wo.handedEvents Wo.eventsOf Wo.userStep Ca.taken Ca.stepped Ru.newUser Ru.newServer Ru.serverAfter Ru.withUser Ru.serverEvents Ru.withServer Ru.step Ru.run ¬32 SHL SHR ROTR Ch Maj Σ0 Σ1 σ0 σ1 K H0 nextW schedule T1 T2 round rounds sums compress zeros padding pad words block hashValue bytes sha256 Gi.sentTo Gi.firstTold Gi.nextTold Gi.giveUpWant Gi.waiting Gi.noGiveUp Gi.giveUpSetup Gi.beginning Gi.told Gi.closed Gi.giveUpGoes Gi.giveUpStarted Gi.giveUpTaken
 write-given-up = ((refl, refl, refl), (refl, refl, refl), (refl, refl, refl, refl, refl, refl, refl, refl))

@@ -2,13 +2,13 @@
 use mathlib.Core.Path.{_≡_, sym, _∙_, subst}
 use mathlib.Core.Bool.{false}
 use mathlib.Core.List.{List}
-use Prim.Native.Nat.{ℕ, suc, _-_, _≤_}
+use Prim.Native.Nat.{ℕ, suc, _-_, _≤_, _<_}
 use native.Mathlib.Omega.{arith}
 use Rattle.tree.proofs.Cases.{not-both}
 use Rattle.server.proofs.After.{head-level}
 use Rattle.whole_run.specs.Runs.{Server}
 use Rattle.honest_run.specs.Network.{HonestSetup, InRange, publicTo, Network, Written}
-use Rattle.honest_run.specs.Claim.{Alone, SameHead, SameHeads}
+use Rattle.honest_run.specs.Claim.{Alone, SameHeads}
 use Rattle.honest_run.proofs.Invariant.{Item, ServerOk, Good}
 use Rattle.honest_run.proofs.Heads.{one-head, one-place}
 use Rattle.honest_run.proofs.Served.{head-in-log}
@@ -27,8 +27,8 @@ module _ (c : HonestSetup) (range : InRange c) (L M : ℕ → Item) (w s : ℕ) 
       (head-in-log users (y .head) (also .ready .head) .0)
       (one-head (c .servers) s _ _ _ (omega (arith, range .two)) last (ok .head) (also .head))
 
-  same-head : SameHead (x .head) (y .head)
-  unfolding SameHead
+  same-head : (x .head .position ≡ y .head .position) × (x .head .level ≡ y .head .level)
+      × (0 < x .head .position → (x .head .author ≡ y .head .author) × (x .head .digest ≡ y .head .digest))
   same-head = (
     place .0,
     place .1,

@@ -9,7 +9,7 @@ use native.Mathlib.Omega.{arith}
 use lib.Dec.{eqb}
 use lib.ListN.{replicate}
 use Rattle.sha256.proofs.Cases.{by-bool}
-use Rattle.tree.specs.Level.{leastFrom, reaches, lg, isFull, highestFull}
+use Rattle.tree.specs.Level.{leastFrom, lg, isFull, highestFull}
 use Rattle.tree.proofs.Cases.{untrue}
 use Rattle.user.specs.declared.call.Progress.{Progress}
 use Rattle.user.specs.Outcome.{Outcome}
@@ -48,7 +48,7 @@ pub call-at : (k : ℕ) (h : k < 5) → WriteCall small (way k h .log) (way k h 
 call-at k h = write-call small start 1 memory entry (replicate 32 0) (5 - k) (at k) (way k h)
 
 pub three : (k : ℕ) (h : k < 5) → writeAnswers (suc (way k h .w)) ≡ 3
-unfolding runOf writeAnswers lg leastFrom reaches isFull highestFull
+unfolding runOf writeAnswers lg leastFrom isFull highestFull
 three k h = ap (λ v. writeAnswers (suc v)) (way k h .holds .count)
 
 one : 1 < 5

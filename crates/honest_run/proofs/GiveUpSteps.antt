@@ -17,7 +17,7 @@ use Rattle.user.specs.Asking.{userSettingsFit, keptFits, userFits, requestRoom,
 use Rattle.user.specs.Outcome.{State, withKept, Lent, Outcome, handingOut}
 use Rattle.user_write.specs.Write.{pathDigest}
 use Rattle.user_give_up.specs.declared.call.GiveUp.{GiveUp}
-use Rattle.user_give_up.specs.GiveUp.{nextTold, giveUpAnswers, giveUpWant, waiting, giveUpSetup, giveUpChecks, beginning, told, giveUpGoes, giveUpStarted, giveUpTaken}
+use Rattle.user_give_up.specs.GiveUp.{nextTold, giveUpAnswers, giveUpWant, waiting, giveUpSetup, giveUpAnswered, beginning, told, giveUpGoes, giveUpStarted, giveUpTaken}
 use Rattle.user_give_up.proofs.GiveUpRules.{by-goes}
 use Rattle.user_calls.specs.Calls.{givingUp, asCall}
 use Rattle.whole_run.specs.World.{User, returned, after}
@@ -68,14 +68,14 @@ module _ (s : Settings) (σ : State) (m : Lent) (settled : userSettingsFit s ≡
   pub give-up-takes : (y : List ℕ) (code : ℕ) → σ .kept .progress .begun ≡ true → (nextTold (s .servers) (σ .kept) ≡ 0 → ⊥)
       → isAnswer (s .users) (giveUpWant (s .servers) (σ .kept)) y ≡ true → answerCode y ≡ code → (code ≡ 0) ⊎ (code ≡ 27)
       → giveUpTaken s σ m waiting y ≡ giveUpGoes s (withKept σ (told (s .servers) (σ .kept))) m
-  unfolding giveUpTaken giveUpChecks waiting firstCode
+  unfolding giveUpTaken waiting firstCode
   give-up-takes y code begun next shape is done =
       let n : ℕ = s .servers in
       let out : (σ .kept .progress .begun && leb 1 (nextTold n (σ .kept))) ≡ true =
       ap₂ (λ (b d : Bool). b && d) begun (le-leb 1 (nextTold n (σ .kept)) (positive _ next)) in
       let ten : ((σ .kept .progress .begun && leb 1 (nextTold n (σ .kept))) && isAnswer (s .users) (giveUpWant n (σ .kept)) y) ≡ true =
       ap₂ (λ (b d : Bool). b && d) out shape in
-      let e : firstCode (giveUpChecks s (σ .kept) waiting (m .request) y) ≡ 0 =
+      let e : firstCode (giveUpSetup s (σ .kept) (m .request) ++ giveUpAnswered (s .servers) (s .users) (σ .kept) waiting y) ≡ 0 =
       setup-passes _ ∙ rw (ten, is, done-by code done) in
       rw e
 

@@ -35,7 +35,9 @@ use Rattle.user_update.specs.declared.call.Update.{Update}
 use Rattle.user_update.specs.Update.{freshUpdate, updateGoes, updateTaken, arrived}
 use Rattle.user_update.proofs.UpdateRules.{endedWith}
 use Rattle.user_write.specs.declared.call.Write.{Write}
-use Rattle.user_write.specs.Write.{openedAt, targetFits, ownLeaf, heldEntry, freshWrite, writeRoom, numberLeft, writeStartChecks, writeStarted, writeAsks, writeWaits, openingChecks, opening, writeOpens, writeUpdates, writeGoes, writeTaken, withUpdate}
+use Rattle.user_write.specs.Write.{openedAt, targetFits, ownLeaf, heldEntry, freshWrite, writeRoom, numberLeft, writeStartChecks}
+use Rattle.user_write.specs.Write.{writeStarted, writeAsks, writeWaits, openingChecks, opening, writeOpens}
+use Rattle.user_write.specs.Write.{writeUpdates, writeGoes, writeTaken, withUpdate}
 use Rattle.whole_run.proofs.Requests.{entry-sizes, laid-length}
 use Rattle.honest_run.specs.Network.{HonestSetup, settingsIn}
 use Rattle.whole_run.specs.Runs.{set}

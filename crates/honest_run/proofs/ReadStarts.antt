@@ -8,7 +8,7 @@ use native.Mathlib.Nat.{zero-add}
 use Rattle.user.specs.Asking.{asking}
 use Rattle.user.specs.Outcome.{Lent, Outcome}
 use Rattle.user_read.specs.declared.call.Read.{Read}
-use Rattle.user_read.specs.Read.{readCount, readWant, freshRead, readAsks, readStarted}
+use Rattle.user_read.specs.Read.{readCount, readWant, readAt, readAsks, readStarted}
 use Rattle.user_calls.specs.Calls.{reading, startRead, asCall, stepped}
 use Rattle.whole_run.specs.World.{User, newReads, returned, after}
 use Rattle.honest_run.specs.Network.{HonestSetup, InRange, settingsIn, Run, entriesOf, Network}
@@ -35,7 +35,7 @@ module _ (c : HonestSetup) (range : InRange c) (r : Run Network) (a : ℕ) (m : 
   fit = fit-user c range (between .log) (between .w) (between .g) a (r .begun) (r .network) (valid .one) (valid .listed) (between .good)
 
   abbrev asks-first : Outcome Read
-  asks-first = readAsks (settingsIn c a) (user .state) m (freshRead i)
+  asks-first = readAsks (settingsIn c a) (user .state) m (readAt i 0)
 
   -- 22, 21 and 24 pass
   starts : readStarted (settingsIn c a) (user .state) m i ≡ asks-first
@@ -46,10 +46,10 @@ module _ (c : HonestSetup) (range : InRange c) (r : Run Network) (a : ℕ) (m : 
   counted = sym (read-count i (user .state .kept .version) (given .2) (given .3))
 
   call : ReadCall c (between .log) (between .w) a i n (after user (asCall reading asks-first))
-  unfolding after readAsks asking freshRead readCount returned
+  unfolding after readAsks asking readCount returned
   call =
       record {
-        call = freshRead i;
+        call = readAt i 0;
         is = refl;
         memory = memory-asks m _ (given .0);
         room = given .1;
@@ -57,7 +57,7 @@ module _ (c : HonestSetup) (range : InRange c) (r : Run Network) (a : ℕ) (m : 
         within = given .3;
         on-way = fresh-read (user .state .kept .version) i (between .log) (m .hashes) (m .held);
         waits = omega arith;
-        sent = sent-for c range a (readWant (c .servers) (user .state .kept .version) (freshRead i)) [] (m .request) (omega (arith, given .0 .request));
+        sent = sent-for c range a (readWant (c .servers) (user .state .kept .version) (readAt i 0)) [] (m .request) (omega (arith, given .0 .request));
         count = zero-add _ ∙ counted;
       }
 

@@ -23,7 +23,9 @@ use Rattle.user.specs.declared.call.Kept.{Kept}
 use Rattle.user.specs.Asking.{userSettingsFit, keptFits, userFits, userSetupChecks, requestRoom, ofNode, isAnswer}
 use Rattle.user.specs.Outcome.{State, Lent, withHashes, withHeld}
 use Rattle.user_read.specs.declared.call.Read.{Read}
-use Rattle.user_read.specs.Read.{readCount, readWant, readChecks, freshRead, readAsks, readEnds, readNext, readHeld, readHashes, heldText, textAuthor, textEntry, textLeaf, readOver, readGives, readEarly, readCollected, readStarted, readTaken}
+use Rattle.user_read.specs.Read.{readCount, readWant, readChecks, readAt, readAsks, readEnds, readNext}
+use Rattle.user_read.specs.Read.{readHeld, readHashes, heldText, textAuthor, textEntry, textLeaf, readOver}
+use Rattle.user_read.specs.Read.{readEarly, readCollected, readStarted, readTaken}
 use Rattle.user_read.proofs.ReadRules.{handed}
 use Rattle.user_read.proofs.Texts.{author-of-text, entry-of-text}
 use Rattle.user_read.proofs.Reading.{want-operation, want-node}
@@ -35,8 +37,7 @@ use Rattle.honest_run.proofs.Nodes.{FullNode, read-node, read-at-most-3
 use Rattle.honest_run.proofs.Answers.{Fit, answer-passes, group-of, answerTo, node-asks, text-size, right-code, right-body, right-shape}
 
 -- a Read that has taken in no answer
-pub fresh-read : (v i : ℕ) (L : ℕ → Item) (hashes held : List ℕ) → ReadOk v i L (freshRead i) hashes held
-unfolding freshRead
+pub fresh-read : (v i : ℕ) (L : ℕ → Item) (hashes held : List ℕ) → ReadOk v i L (readAt i 0) hashes held
 fresh-read v i L hashes held =
     record { position = refl; text = λ h. absurd (omega arith); hashes-right = λ j h. absurd (omega arith) }
 
@@ -56,7 +57,7 @@ checks-pass s k i m cs settings-fit kept-fit one iv room entry-room =
 
 -- a Read starts with the Operation
 pub read-starts : (c : HonestSetup) (L : ℕ → Item) (w a i : ℕ) (σ : State) (m : Lent) → Fit c L w a (σ .kept) → 1 ≤ i → i ≤ σ .kept .version
-    → leastRequest ≤ length (m .request) → 1024 ≤ length (m .entry) → readStarted (settingsIn c a) σ m i ≡ readAsks (settingsIn c a) σ m (freshRead i)
+    → leastRequest ≤ length (m .request) → 1024 ≤ length (m .entry) → readStarted (settingsIn c a) σ m i ≡ readAsks (settingsIn c a) σ m (readAt i 0)
 unfolding readStarted firstCode
 read-starts c L w a i σ m fit one iv room entry-room =
     let e : firstCode (readChecks (settingsIn c a) (σ .kept) i m) ≡ 0 =
@@ -124,7 +125,8 @@ module _ (s : Settings) (σ : State) (m : Lent) (r : Read) (a body : List ℕ) (
   taken-asks h = rw (is, early-passed, lt-leb (readCount (r .position) (σ .kept .version)) (suc (r .answers)) h)
 
   -- where none is left and 23 passes it ends
-  taken-ends : suc (r .answers) ≡ readCount (r .position) (σ .kept .version) → readGives (σ .kept) next (collectedBy r m body .hashes) (collectedBy r m body .held) ≡ true
+  taken-ends : suc (r .answers) ≡ readCount (r .position) (σ .kept .version)
+      → eqs (value (readOver (σ .kept .version) next (collectedBy r m body .hashes) (collectedBy r m body .held))) (σ .kept .digest) ≡ true
       → readTaken s σ m r a ≡ readEnds σ (collectedBy r m body) next
   unfolding readTaken readCollected readNext firstCode
   taken-ends h g = rw (is, early-passed, le-leb (readCount (r .position) (σ .kept .version)) (suc (r .answers)) (omega arith), g)
@@ -216,8 +218,8 @@ module _ (c : HonestSetup) (L : ℕ → Item) (w g a i : ℕ) (σ : State) (m : 
   text-leaf = rw (text-author, text-entry)
 
   -- 23: at the last answer the Read gives the digest that is kept
-  gives : suc (r .answers) ≡ readCount i v → readGives k next-read (lent .hashes) (lent .held) ≡ true
-  unfolding readGives readOver readCount readNext digest
+  gives : suc (r .answers) ≡ readCount i v → eqs (value (readOver (k .version) next-read (lent .hashes) (lent .held))) (k .digest) ≡ true
+  unfolding readOver readCount readNext digest
   gives e =
       let all : TrueReads (leaves (texts L)) (readNodes i v) (lent .hashes) = λ j h. next-hashes j (omega arith) in
       let own = textLeaf (heldText next-read (lent .held)) in

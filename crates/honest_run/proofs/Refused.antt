@@ -26,14 +26,15 @@ use Rattle.user_write.specs.declared.call.Write.{Write}
 use Rattle.user_write.specs.Write.{freshWrite, writeRoom, writeStartChecks, writeStarted, writeAsks, writeWaits, writeTaken}
 use Rattle.user_write.proofs.WriteRules.{by-going, by-opening}
 use Rattle.user_write.proofs.WriteAnswers.{by-updating}
-use Rattle.user_read.specs.Read.{freshRead, readWant, readChecks, readAsks, readStarted, readCollected, readEnds, readNext}
+use Rattle.user_read.specs.Read.{readAt, readWant, readChecks, readAsks, readStarted, readCollected, readEnds, readNext}
 use Rattle.user_read.proofs.ReadRules as ReadRules
 use Rattle.user_calls.specs.Calls.{Call, idle, updating, writing, reading, givingUp, Input, startUpdate, startWrite, startRead, startGiveUp, answer, asCall, taken, stepped}
 use Rattle.whole_run.specs.World.{User, sentBy, returned, userStep, after}
 use Rattle.whole_run.specs.Runs.{serverAfter}
 use Rattle.whole_run.proofs.Requests.{sent-kind, update-kind, read-kind}
 use Rattle.whole_run.proofs.Refusals.{refused-step, accepted-step}
-use Rattle.honest_run.specs.Network.{HonestSetup, InRange, settingsIn, Network, reply, arrives, steps, comesBack, networkAfter, handed, Act, calls, Written, Run, wrote, doAct, entriesOf, inRecords}
+use Rattle.honest_run.specs.Network.{HonestSetup, InRange, settingsIn, Network, reply, arrives, steps, comesBack, networkAfter}
+use Rattle.honest_run.specs.Network.{handed, Act, calls, Written, Run, wrote, doAct, entriesOf, inRecords}
 use Rattle.honest_run.specs.Claim.{OnlyPulls, Refused}
 use Rattle.honest_run.proofs.Frames.{by-set, set-same}
 use Rattle.honest_run.proofs.Served.{server-is}
@@ -110,7 +111,7 @@ module _ (s : Settings) (named : length (s .log) ≡ 16) (σ : State) where
       by-cond (λ o. Pulls (asCall reading o)) (eqb code 0) _ _
       (λ e.
       let room = setup-passed s (σ .kept) (requestRoom (m .request) && leb 1024 (length (m .entry))) _ (eqb-true code 0 e) .1 in
-      λ _ _. (refl, pull-out _ _ (read-kind (s .servers) (σ .kept .version) (freshRead i)) (and-true (requestRoom (m .request)) _ room .0)))
+      λ _ _. (refl, pull-out _ _ (read-kind (s .servers) (σ .kept .version) (readAt i 0)) (and-true (requestRoom (m .request)) _ room .0)))
       (λ e z. absurd (eqb-false code 0 e z))
 
   -- an answer

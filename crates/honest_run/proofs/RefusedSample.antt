@@ -8,7 +8,7 @@ use Prim.Native.Nat.{ℕ, suc, _-_, _≤_, max}
 use native.Mathlib.Omega.{arith}
 use lib.Dec.{eqb}
 use lib.ListN.{length, replicate}
-use Rattle.tree.specs.Level.{leastFrom, reaches, lg, isFull, highestFull}
+use Rattle.tree.specs.Level.{leastFrom, lg, isFull, highestFull}
 use Rattle.tree.specs.Label.{nodesTo, label, serverOf, owner}
 use Rattle.tree.proofs.Cases.{cases-eq}
 use Rattle.user.specs.declared.call.Progress.{Progress}
@@ -59,7 +59,7 @@ once =
     omega (arith, on .count, three 2 two, arrived, ap (λ (p : Progress). p .levels) one-handed)
 
 reserves : (lg (suc w) ≡ 0) × (commitNumber (suc w) ≡ 2)
-unfolding lg leastFrom reaches commitNumber isFull highestFull
+unfolding lg leastFrom commitNumber isFull highestFull
 reserves = (ap (λ v. lg (suc v)) none, ap (λ v. commitNumber (suc v)) none)
 
 -- the Update of user 2
@@ -112,7 +112,7 @@ valid-give-up =
     }
 
 one-told : countOf small (ran tried) 1 gives-up ≡ 1
-unfolding answersOf giveUpAnswers countTold sentTo nodesTo label serverOf owner lg leastFrom reaches
+unfolding answersOf giveUpAnswers countTold sentTo nodesTo label serverOf owner lg leastFrom
 one-told =
     ap (λ (σ : State). giveUpAnswers 2 (σ .kept)) (kept 1)
     ∙ ap₂ (λ (v : ℕ) (p : Progress). countTold 2 (suc v) (p .levels) (2 - p .done)) version-none one-handed

@@ -11,11 +11,11 @@ use lib.ListN.{length, replicate, length-replicate}
 use borrow.Author.Tests.{eqb-true, eqb-false, leb-true}
 use Rattle.sha256.specs.Bytes.{numberAt}
 use Rattle.sha256.proofs.Cases.{by-bool}
-use Rattle.tree.specs.Level.{leastFrom, reaches, lg, isFull, highestFull}
+use Rattle.tree.specs.Level.{leastFrom, lg, isFull, highestFull}
 use Rattle.tree.specs.Label.{owner}
 use Rattle.tree.specs.Setup.{Settings, firstCode}
 use Rattle.tree.proofs.Cases.{not-both}
-use Rattle.user_list.specs.Users.{leastAnswer, leastRequest, longestCommit, longestSignature}
+use Rattle.user_list.specs.Users.{leastAnswer, leastRequest, longestSignature}
 use Rattle.user.specs.Asking.{requestRoom, refused}
 use Rattle.user.specs.Outcome.{lentOf, State, Lent, Outcome}
 use Rattle.user.proofs.Passed.{setup-passed, by-cond}
@@ -41,12 +41,12 @@ unfolding storedTo bodySize
 little n p size s zero = omega arith
 little n p size s (suc j) =
     let owned = ltb (lg p) j && eqb (owner n p (writeLevel p j)) s in
-    let body : cond (eqb j (lg p + 1)) size (cond (ltb j (commitNumber p)) 32 longestCommit) ≤ longestCommit + size =
-    by-bool (λ b. cond b size (cond (ltb j (commitNumber p)) 32 longestCommit) ≤ longestCommit + size) (eqb j (lg p + 1)) (λ _. omega arith)
-    (λ _. by-bool (λ b. cond b 32 longestCommit ≤ longestCommit + size) (ltb j (commitNumber p)) (λ _. omega arith) (λ _. omega arith))
+    let body : cond (eqb j (lg p + 1)) size (cond (ltb j (commitNumber p)) 32 (32 + longestSignature)) ≤ 32 + longestSignature + size =
+    by-bool (λ b. cond b size (cond (ltb j (commitNumber p)) 32 (32 + longestSignature)) ≤ 32 + longestSignature + size) (eqb j (lg p + 1)) (λ _. omega arith)
+    (λ _. by-bool (λ b. cond b 32 (32 + longestSignature) ≤ 32 + longestSignature + size) (ltb j (commitNumber p)) (λ _. omega arith) (λ _. omega arith))
     in
-    let one : cond owned (12 + cond (eqb j (lg p + 1)) size (cond (ltb j (commitNumber p)) 32 longestCommit)) 0 ≤ leastAnswer + size =
-    by-bool (λ b. cond b (12 + cond (eqb j (lg p + 1)) size (cond (ltb j (commitNumber p)) 32 longestCommit)) 0 ≤ leastAnswer + size) owned (λ _. omega arith) (λ _. omega arith)
+    let one : cond owned (12 + cond (eqb j (lg p + 1)) size (cond (ltb j (commitNumber p)) 32 (32 + longestSignature))) 0 ≤ leastAnswer + size =
+    by-bool (λ b. cond b (12 + cond (eqb j (lg p + 1)) size (cond (ltb j (commitNumber p)) 32 (32 + longestSignature))) 0 ≤ leastAnswer + size) owned (λ _. omega arith) (λ _. omega arith)
     in
     let r = little n p size s j in
     omega arith
@@ -90,7 +90,7 @@ range =
     }
 
 new : NewWrite small start (start .network .users 1 .state .kept) entry
-unfolding runOf newNetwork newServer newUser commitNumber targetFits strikes lg leastFrom reaches isFull highestFull
+unfolding runOf newNetwork newServer newUser commitNumber targetFits strikes lg leastFrom isFull highestFull
 new =
     record {
       number = omega arith;
@@ -100,7 +100,8 @@ new =
     }
 
 pub valid : ValidCall small start 1 first
-unfolding Alone ValidInput runOf newNetwork newUser entryFits strikes isSchedule rulesKept scheduleFits laidOut segments segmentsIn segmentCount segmentOf segmentsFit segmentFits signFits change sameSign twosComplement numberAt
+unfolding Alone ValidInput runOf newNetwork newUser entryFits strikes isSchedule rulesKept scheduleFits laidOut segments segmentsIn
+    segmentCount segmentOf segmentsFit segmentFits signFits change sameSign twosComplement numberAt
 valid =
     record {
       one = omega arith;
@@ -125,7 +126,7 @@ valid =
 
 -- two Status, one Reserve, the entry and the Commit
 pub five : countOf small start 1 first ≡ 5
-unfolding runOf newNetwork newUser answersOf updateAnswers writeAnswers lg leastFrom reaches isFull highestFull
+unfolding runOf newNetwork newUser answersOf updateAnswers writeAnswers lg leastFrom isFull highestFull
 five = refl
 
 pub first-write-ends : (handed (inRecords small) (start .network) 1 first 5 .code ≡ 0) × (handed (inRecords small) (start .network) 1 first 5 .ended ≡ true)

@@ -16,7 +16,7 @@ use Rattle.tree.proofs.Messages.{request-header-length, request-begins, request
 use Rattle.server.specs.declared.Head.{Head}
 use Rattle.store.specs.Shape.{nodeFits, requestBodyFits, kindFits}
 use Rattle.server.specs.Checks.{requestFits}
-use Rattle.server.specs.Checks.{placeFits, headFits, serverSetupChecks, requestChecks, kindChecks, ownsNode, recordFound, pullSource}
+use Rattle.server.specs.Checks.{placeFits, headFits, serverSetupChecks, kindChecks, ownsNode, recordFound, pullSource}
 use Rattle.server.specs.Serve.{headAfter, storeAfter, usedAfter, bodyGiven, headerGiven, answerGiven, ServeOutcome, served}
 use Rattle.server.proofs.Effects.{head-refused}
 use Rattle.server.proofs.Served.{code, Ready, setup-ready, Early, early-ready, served-passed}
@@ -135,7 +135,6 @@ module _ (c : HonestSetup) (s : ℕ) (x : Server) (q : List ℕ) where
     module _ (early : Early (settingsIn c s) q) where
       -- all other checks pass, or give the kind's code
       request-code : code (settingsIn c s) (x .head) (x .store) (x .used) q (c .answers s) ≡ kindCode
-      unfolding requestChecks
       request-code = early-ready (settingsIn c s) (x .head) (recordFound held q) (pullSource held q) (length (x .store) - x .used) q early
 
       -- a refusal keeps the head,

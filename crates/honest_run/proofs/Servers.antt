@@ -16,7 +16,7 @@ use Rattle.server.specs.Serve.{noneEarlier}
 use Rattle.server.proofs.Asked.{names-node, in-log}
 use Rattle.server.proofs.After.{head-level}
 use Rattle.user_write.specs.Write.{commitNumber}
-use Rattle.whole_run.specs.Runs.{NewServer, newHead, Server, newServer}
+use Rattle.whole_run.specs.Runs.{NewServer, Server, newServer}
 use Rattle.honest_run.specs.Network.{HonestSetup, publicTo}
 use Rattle.honest_run.proofs.Invariant.{Item, texts, digestOf, bodyOf, recordOf, PutKind, has, reached, HeadAt, EarlierOk, ServerOk}
 use Rattle.honest_run.proofs.Log.{same-hash, same-digest}
@@ -160,7 +160,7 @@ server-commits c L w s x ok =
 -- At first: head (0, 0), and nothing stored.
 pub server-at-first : (c : HonestSetup) (L : ℕ → Item) (s : ℕ) (b : NewServer) → 1 ≤ s → serverSettingsFit (c .servers) s (publicTo c (c .count)) ≡ true
     → ServerOk c L 0 0 s (newServer b)
-unfolding newServer headFits placeFits earlierFits noneEarlier whole records recordsIn sizes first newHead
+unfolding newServer headFits placeFits earlierFits noneEarlier whole records recordsIn sizes first
 server-at-first c L s b low fits =
     record {
       ready = record { settings = fits; head = refl; within = omega arith; records = refl };

@@ -8,7 +8,7 @@ use Rattle.sha256.proofs.Cases.{by-bool}
 use Rattle.tree.proofs.Cases.{not-both}
 use Rattle.user.specs.declared.call.Step.{Step}
 use Rattle.user_calls.specs.Calls.{Input, startUpdate, startWrite, startRead, startGiveUp, answer}
-use Rattle.whole_run.specs.Runs.{NewUser, newUser, newHead, NewWorld, newServer, serverAfter}
+use Rattle.whole_run.specs.Runs.{NewUser, newUser, NewWorld, newServer, serverAfter}
 use Rattle.honest_run.specs.Network.{HonestSetup, InRange, inRecords, Network, reply, arrives, networkAfter, newNetwork, Run, runOf}
 use Rattle.honest_run.specs.Claim.{ValidInput, ValidCall, countOf, CallsServe, HonestRun}
 use Rattle.honest_run.proofs.Invariant.{Item, Good, KeptOk}
@@ -46,7 +46,7 @@ first-user c a b =
     }
 
 first-between : (c : HonestSetup) → InRange c → (b : NewWorld) → Between c (runFrom c b [])
-unfolding runOf newNetwork newUser newHead
+unfolding runOf newNetwork newUser newServer
 first-between c range b =
     record {
       log = none;

@@ -25,7 +25,9 @@ use Rattle.user.proofs.Ranges.{ProgressInRange, kept-in-range}
 use Rattle.firing.specs.Entry.{entryFits}
 use Rattle.firing.specs.Schedule.{rulesKept}
 use Rattle.user_write.specs.declared.call.Write.{Write}
-use Rattle.user_write.specs.Write.{openedAt, ownLeaf, pathDigest, heldEntry, freshWrite, commitNumber, writeKind, writeLevel, writeWant, writeBody, writeRoom, numberLeft, writeStarted, writeAsks, handing, signsNext, writeChecks, commitSignature, writeSignature, signing, committed, writeUpdates, writeGoes, writeTaken, goesOn}
+use Rattle.user_write.specs.Write.{openedAt, ownLeaf, pathDigest, heldEntry, freshWrite, commitNumber, writeKind, writeLevel, writeWant}
+use Rattle.user_write.specs.Write.{writeBody, writeRoom, numberLeft, writeStarted, writeAsks, handing, signsNext, writeChecks, commitSignature}
+use Rattle.user_write.specs.Write.{writeSignature, signing, committed, writeUpdates, writeGoes, writeTaken, goesOn}
 use Rattle.user_write.proofs.WriteRanges.{write-fits}
 use Rattle.honest_run.specs.Network.{HonestSetup, InRange, settingsIn}
 use Rattle.honest_run.proofs.Invariant.{Item, hashOf, digestOf, OpenOk, bodyAt}

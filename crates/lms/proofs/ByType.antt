@@ -7,7 +7,7 @@ use Prim.Native.Nat.{ℕ, _^_, _≤_, _<_}
 use native.Mathlib.Omega.{arith}
 use lib.Dec.{leb, eqb}
 use lib.ListN.{length}
-use borrow.Author.Tests.{eqb-true, eqb-false, leb-true, le-leb}
+use borrow.Author.Tests.{eqb-true, eqb-false, leb-true, le-leb, lt-leb}
 use Rattle.sha256.specs.Bytes.{numberAt}
 use Rattle.sha256.proofs.Cases.{by-bool}
 use Rattle.lms.specs.declared.Ots.{Ots}
@@ -17,6 +17,7 @@ use Rattle.lms.specs.Types.{LMOTS_SHA256_N32_W1, LMOTS_SHA256_N32_W2, LM
 use Rattle.lms.specs.Types.{LMS_SHA256_M32_H5, LMS_SHA256_M32_H10}
 use Rattle.lms.specs.Inner.{Row}
 use Rattle.lms.specs.Sets.{otherType, otsOf, lmsOf, isSet, keyLmsType, keyOtsType}
+use Rattle.lms.specs.Tree.{treeSize}
 use Rattle.lms.specs.Check.{keyFits, checkOf}
 use Rattle.lms.specs.Claims.{Set}
 use Rattle.lms.proofs.Climbing.{both}
@@ -106,53 +107,46 @@ row-of =
 pub height-of : (t : ℕ) → lmsOf t .h ≤ 25
 height-of = by-lms (λ _ l. l .h ≤ 25) (omega arith) (omega arith) (λ t x a n. omega arith)
 
--- a row's type is the one asked exactly where the table has it, and a type of the table is asked for by its own number only
-record OtsAsked (t : ℕ) (o : Ots) : Type 0 where
-  named : 1 ≤ t → t ≤ 4 → o .otstype ≡ t
-  only : o .otstype ≡ t → (1 ≤ t) × (t ≤ 4)
-  own : 1 ≤ o .otstype → o .otstype ≤ 4 → o .otstype ≡ t
-  fits : o .otstype < 2 ^ 32
+-- a buffer that is shorter than the tree of type t, whose row is l and whose length is computed as `size`
+pub tree-short : (t size : ℕ) (l : Lms) (nodes : List ℕ) → l ≡ lmsOf t → size ≡ treeSize (l .h) → length nodes < size
+    → leb (treeSize (lmsOf t .h)) (length nodes) ≡ false
+tree-short t size l nodes row computed short = lt-leb _ (length nodes) (rw (computed, row) at short)
 
-record LmsAsked (t : ℕ) (l : Lms) : Type 0 where
-  named : 5 ≤ t → t ≤ 6 → l .lmstype ≡ t
-  only : l .lmstype ≡ t → (5 ≤ t) × (t ≤ 6)
-  own : 5 ≤ l .lmstype → l .lmstype ≤ 6 → l .lmstype ≡ t
-  fits : l .lmstype < 2 ^ 32
-  low : l .h ≤ 32
+-- of a table with the types `first` to `last`: a row's type x is the t that is asked for exactly where the table has it, and a type of the
+-- table is asked for by its own number only
+record Asked (first last t x : ℕ) : Type 0 where
+  named : first ≤ t → t ≤ last → x ≡ t
+  only : x ≡ t → (first ≤ t) × (t ≤ last)
+  own : first ≤ x → x ≤ last → x ≡ t
+  fits : x < 2 ^ 32
 
-ots-asked : (t : ℕ) → OtsAsked t (otsOf t)
+asked-in : (first last t : ℕ) → first ≤ t → t ≤ last → t < 2 ^ 32 → Asked first last t t
+asked-in first last t lo hi small = record { named = λ _ _. refl; only = λ _. (lo, hi); own = λ _ _. refl; fits = small }
+
+asked-other : (first last t x : ℕ) → 1 ≤ first → last ≤ 6 → Apart t x → (first ≤ t → t ≤ last → ⊥) → Asked first last t x
+asked-other first last t x low high a n =
+    record {
+      named = λ lo hi. absurd (n lo hi);
+      only = λ e. absurd (a .differs e);
+      own = λ lo hi. ⊎-elim (λ (z : x ≡ 0). absurd (omega arith)) (λ (z : x ≡ 4294967295). absurd (omega arith)) (a .no-type);
+      fits = ⊎-elim (λ (z : x ≡ 0). omega arith) (λ (z : x ≡ 4294967295). omega arith) (a .no-type);
+    }
+
+ots-asked : (t : ℕ) → Asked 1 4 t (otsOf t .otstype)
 ots-asked =
-    by-ots OtsAsked
-    (record { named = λ _ _. refl; only = λ _. (omega arith, omega arith); own = λ _ _. refl; fits = omega arith })
-    (record { named = λ _ _. refl; only = λ _. (omega arith, omega arith); own = λ _ _. refl; fits = omega arith })
-    (record { named = λ _ _. refl; only = λ _. (omega arith, omega arith); own = λ _ _. refl; fits = omega arith })
-    (record { named = λ _ _. refl; only = λ _. (omega arith, omega arith); own = λ _ _. refl; fits = omega arith })
-    (λ t x a n.
-    record {
-      named = λ lo hi. absurd (n lo hi);
-      only = λ e. absurd (a .differs e);
-      own = λ lo hi. ⊎-elim (λ (z : x ≡ 0). absurd (omega arith)) (λ (z : x ≡ 4294967295). absurd (omega arith)) (a .no-type);
-      fits = ⊎-elim (λ (z : x ≡ 0). omega arith) (λ (z : x ≡ 4294967295). omega arith) (a .no-type);
-    })
+    by-ots (λ t o. Asked 1 4 t (o .otstype)) (asked-in 1 4 1 (omega arith) (omega arith) (omega arith))
+    (asked-in 1 4 2 (omega arith) (omega arith) (omega arith)) (asked-in 1 4 3 (omega arith) (omega arith) (omega arith))
+    (asked-in 1 4 4 (omega arith) (omega arith) (omega arith)) (λ t x. asked-other 1 4 t x (omega arith) (omega arith))
 
-lms-asked : (t : ℕ) → LmsAsked t (lmsOf t)
+lms-asked : (t : ℕ) → Asked 5 6 t (lmsOf t .lmstype)
 lms-asked =
-    by-lms LmsAsked
-    (record { named = λ _ _. refl; only = λ _. (omega arith, omega arith); own = λ _ _. refl; fits = omega arith; low = omega arith })
-    (record { named = λ _ _. refl; only = λ _. (omega arith, omega arith); own = λ _ _. refl; fits = omega arith; low = omega arith })
-    (λ t x a n.
-    record {
-      named = λ lo hi. absurd (n lo hi);
-      only = λ e. absurd (a .differs e);
-      own = λ lo hi. ⊎-elim (λ (z : x ≡ 0). absurd (omega arith)) (λ (z : x ≡ 4294967295). absurd (omega arith)) (a .no-type);
-      fits = ⊎-elim (λ (z : x ≡ 0). omega arith) (λ (z : x ≡ 4294967295). omega arith) (a .no-type);
-      low = omega arith;
-    })
+    by-lms (λ t l. Asked 5 6 t (l .lmstype)) (asked-in 5 6 5 (omega arith) (omega arith) (omega arith))
+    (asked-in 5 6 6 (omega arith) (omega arith) (omega arith)) (λ t x. asked-other 5 6 t x (omega arith) (omega arith))
 
 -- so the round trip holds of the rows of every pair of types
 pub set-of : (lmstype otstype : ℕ) → Set (otsOf otstype) (lmsOf lmstype)
 set-of u t =
-    record { ots-fits = ots-asked t .fits; type-fits = lms-asked u .fits; numbers-fit = lms-asked u .low }
+    record { ots-fits = ots-asked t .fits; type-fits = lms-asked u .fits; numbers-fit = omega (arith, height-of u) }
 
 -- the pairs of types that are sets
 pub set-types : (lmstype otstype : ℕ) → isSet lmstype otstype ≡ true

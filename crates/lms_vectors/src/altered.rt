@@ -18,7 +18,7 @@ fn each(key: &mut [u8], text: &[u8], signature: &mut [u8]) {
     key_fields(key, text, signature);
     head_fields(key, text, signature);
     other_fields(key, text, signature);
-    unchanged(key, text, signature);
+    answered(b"nothing changed", key, text, signature);
 }
 
 // Key, signature and text that are too short or too long.
@@ -83,10 +83,10 @@ fn other_fields(key: &[u8], text: &[u8], signature: &mut [u8]) {
     in_signature(b"wrong path9", key, text, signature, 2507);
 }
 
-// The record as it is.
-fn unchanged(key: &[u8], text: &[u8], signature: &[u8]) {
+// What the check of a record answers.
+fn answered(name: &[u8], key: &[u8], text: &[u8], signature: &[u8]) {
     report::answer(
-        b"nothing changed",
+        name,
         lms::check(
             6,
             3,
@@ -100,32 +100,14 @@ fn unchanged(key: &[u8], text: &[u8], signature: &[u8]) {
 // The check with the byte at a place of the key changed, and changed back.
 fn in_key(name: &[u8], key: &mut [u8], at: usize, text: &[u8], signature: &[u8]) {
     change(key, at);
-    report::answer(
-        name,
-        lms::check(
-            6,
-            3,
-            bytes::front(key, 56),
-            text,
-            bytes::front(signature, 2508),
-        ),
-    );
+    answered(name, key, text, signature);
     change(key, at);
 }
 
 // The same for a place of the signature.
 fn in_signature(name: &[u8], key: &[u8], text: &[u8], signature: &mut [u8], at: usize) {
     change(signature, at);
-    report::answer(
-        name,
-        lms::check(
-            6,
-            3,
-            bytes::front(key, 56),
-            text,
-            bytes::front(signature, 2508),
-        ),
-    );
+    answered(name, key, text, signature);
     change(signature, at);
 }
 

@@ -2,11 +2,11 @@
 use mathlib.Core.Path.{_≡_, refl, _∙_, sym}
 use mathlib.Core.Bool.{cond}
 use mathlib.Core.List.{List, [], _++_, append-assoc, append-nil}
-use Prim.Native.Nat.{ℕ, zero, suc, _+_, _-_, _≤_, _<_}
+use Prim.Native.Nat.{ℕ, zero, suc, _+_, _-_, _%_, _≤_, _<_}
 use native.Mathlib.Numerals.{add-one}
 use native.Mathlib.Nat.{add-zero}
 use native.Mathlib.Omega.{arith}
-use lib.Dec.{ltb}
+use lib.Dec.{eqb, ltb}
 use lib.ListN.{length, take, drop, length-append}
 use lib.Seq.{take-at}
 use borrow.Author.Tests.{lt-ltb, le-ltb}
@@ -14,7 +14,7 @@ use Rattle.sha256.specs.Bytes.{written}
 use Rattle.sha256.proofs.Cases.{by-bool}
 use Rattle.sha256.proofs.Laws.{written-fits, written-after}
 use Rattle.tree.specs.Level.{lg}
-use Rattle.tree.specs.Label.{label, ownerOfLabel, owner, wait}
+use Rattle.tree.specs.Label.{label, serverOf, owner, wait}
 use Rattle.tree.proofs.Labels.{label-at-top, owner-by-label}
 use Rattle.owner_map.specs.Table.{cell, row, rows, fitting, piece}
 
@@ -33,7 +33,7 @@ put-twice d d′ d″ s t a a′ a″ m k h p q =
 
 -- the five numbers of a row
 pub row-laid : (n p : ℕ) (d₀ d₁ d₂ d₃ d₄ d₅ : List ℕ) (a₀ a₁ a₂ a₃ a₄ a₅ : ℕ) (l f h g w : ℕ) → a₀ + 105 ≤ length d₀
-    → l ≡ label p 0 → f ≡ ownerOfLabel n l → h ≡ lg p → g ≡ ownerOfLabel n (l + h) → w ≡ wait p n
+    → l ≡ label p 0 → f ≡ cond (eqb n 0) 0 (serverOf n (l % n)) → h ≡ lg p → g ≡ cond (eqb n 0) 0 (serverOf n ((l + h) % n)) → w ≡ wait p n
     → Put d₀ a₀ (cell p 32) 21 d₁ a₁ → Put d₁ a₁ (cell l 32) 21 d₂ a₂ → Put d₂ a₂ (cell f 32) 21 d₃ a₃
     → Put d₃ a₃ (cell g 32) 21 d₄ a₄ → Put d₄ a₄ (cell w 10) 21 d₅ a₅ → Put d₀ a₀ (row n p) 105 d₅ a₅
 unfolding row

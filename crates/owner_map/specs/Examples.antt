@@ -2,7 +2,7 @@
 use mathlib.Core.Path.{_≡_, refl}
 use mathlib.Core.List.{[], _∷_, _++_}
 use lib.ListN.{replicate}
-use Rattle.tree.specs.Level.{leastFrom, reaches, lg}
+use Rattle.tree.specs.Level.{leastFrom, lg}
 use Rattle.tree.specs.Label.{nodesTo, label, serverOf, owner, span, wait}
 use Rattle.lines.specs.Text.{isBlank, isDigit, run, past, numberFrom, number}
 use Rattle.owner_map.specs.declared.input.Asked.{Asked}
@@ -18,7 +18,7 @@ paths-4-5 : answer (asked (52 ∷ 32 ∷ 53 ∷ 10 ∷ []))
     ∷ 51 ∷ 32 ∷ 52 ∷ 32 ∷ 52 ∷ 32 ∷ 50 ∷ 32 ∷ 49 ∷ 10
     ∷ 52 ∷ 32 ∷ 55 ∷ 32 ∷ 51 ∷ 32 ∷ 49 ∷ 32 ∷ 49 ∷ 10
     ∷ 53 ∷ 32 ∷ 49 ∷ 48 ∷ 32 ∷ 50 ∷ 32 ∷ 49 ∷ 32 ∷ 48 ∷ 10 ∷ []
-unfolding leastFrom reaches lg nodesTo label serverOf owner span wait isBlank isDigit run past numberFrom number inRange firstPart
+unfolding leastFrom lg nodesTo label serverOf owner span wait isBlank isDigit run past numberFrom number inRange firstPart
     secondPart lastPart twoNumbers asked digitsIn decimal cell row rows headLine table
 paths-4-5 = refl
 

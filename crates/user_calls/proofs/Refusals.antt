@@ -14,13 +14,13 @@ use Rattle.user_write.specs.Write.{writeStartChecks, writeChecks, writeWaits, w
 use Rattle.user_read.specs.declared.call.Read.{Read}
 use Rattle.user_read.specs.Read.{readChecks, readEarly, readStarted, readTaken}
 use Rattle.user_give_up.specs.declared.call.GiveUp.{GiveUp}
-use Rattle.user_give_up.specs.GiveUp.{giveUpSetup, giveUpChecks, giveUpStarted, giveUpTaken}
+use Rattle.user_give_up.specs.GiveUp.{giveUpSetup, giveUpStarted, giveUpTaken}
 use Rattle.user_update.proofs.UpdateAnswers.{update-start-refusal, update-refusal, no-update}
 use Rattle.user_write.proofs.WriteAnswers.{write-start-refusal, write-refusal, no-write}
 use Rattle.user_read.proofs.ReadAnswers.{read-start-refusal, read-refusal, no-read}
 use Rattle.user_give_up.proofs.GiveUpAnswers.{give-up-start-refusal, give-up-refusal, no-give-up}
 use Rattle.user_calls.specs.Calls.{Call, idle, updating, writing, reading, givingUp, Input, startUpdate, startWrite, startRead}
-use Rattle.user_calls.specs.Calls.{startGiveUp, answer, asCall, strayCode, taken, stepped}
+use Rattle.user_calls.specs.Calls.{startGiveUp, answer, asCall, taken, stepped}
 use Rattle.user_calls.specs.Claims.{refusedStep, StepRefusal, StartRefusal}
 
 pub step-refusal : StepRefusal
@@ -68,7 +68,8 @@ write-unfit s σ m w a e =
 
 pub step-unfit : (s : Settings) (σ : State) (m : Lent) (c : Call) (i : Input) → userSettingsFit s ≡ false
     → stepped s σ m c i ≡ refusedStep 22 σ m c i
-unfolding stepped taken strayCode updateStarted updateSetup writeStarted writeStartChecks readStarted readTaken readEarly readChecks giveUpStarted giveUpTaken giveUpChecks giveUpSetup userSetupChecks userFits firstCode
+unfolding stepped taken updateStarted updateSetup writeStarted writeStartChecks readStarted readTaken readEarly readChecks
+    giveUpStarted giveUpTaken giveUpSetup userSetupChecks userFits firstCode
 step-unfit s σ m c (startUpdate l) e = rw e
 step-unfit s σ m c (startWrite l entry randomizer) e = rw e
 step-unfit s σ m c (startRead l i) e = rw e

@@ -9,6 +9,7 @@ use Rattle.lms.specs.Types.{LMOTS_SHA256_N32_W4, LMS_SHA256_M32_H10}
 use Rattle.lms.specs.Tree.{treeSize}
 use Rattle.lms.specs.Signature.{signatureSize}
 
+-- How many users the list has: its whole keys.
 unfoldable pub userCount : List ℕ → ℕ
 userCount users = length users / 56
 
@@ -37,23 +38,17 @@ treeLength users a = treeSize (LMS_SHA256_M32_H10 .h)
 unfoldable pub signatureCount : List ℕ → ℕ → ℕ
 signatureCount users a = 2 ^ LMS_SHA256_M32_H10 .h
 
--- The longest signature that a key may make, and with it the bodies of a Commit (digest, signature) and of a Record (author, digest,
--- signature), and the longest tree of a key.
+-- The longest signature that a key may make, and the tree of such a key.
 abbrev pub longestSignature : ℕ
 longestSignature = 2508
-
-abbrev pub longestCommit : ℕ
-longestCommit = 32 + longestSignature
-
-abbrev pub longestRecord : ℕ
-longestRecord = 34 + longestSignature
 
 abbrev pub longestTree : ℕ
 longestTree = 65504
 
--- Document 01, code 21: "lent buffer below 2,566 (request to be written), 2,552 (answer)": a Commit, and the answer to a Record.
+-- Document 01, code 21: "lent buffer below 2,566 (request to be written), 2,552 (answer)": a Commit has 58 bytes before its signature, the
+-- answer to a Record 44.
 abbrev pub leastRequest : ℕ
-leastRequest = 26 + longestCommit
+leastRequest = 58 + longestSignature
 
 abbrev pub leastAnswer : ℕ
-leastAnswer = 10 + longestRecord
+leastAnswer = 44 + longestSignature

@@ -23,7 +23,7 @@ use Rattle.tree.proofs.Cases.{and-true}
 use Rattle.tree.proofs.Messages.{be-one, request-position}
 use Rattle.tree.proofs.Pieces.{piece-length}
 use Rattle.tree.specs.Setup.{Settings}
-use Rattle.user_list.specs.Users.{treeLength, leastRequest, longestCommit, longestSignature, longestTree}
+use Rattle.user_list.specs.Users.{treeLength, leastRequest, longestSignature, longestTree}
 use Rattle.user_list.proofs.Lists.{one-tree, one-count}
 use Rattle.user_update.specs.declared.call.Update.{Update}
 use Rattle.user_write.specs.declared.call.Write.{Write}
@@ -92,12 +92,12 @@ reserve-first p = rw (le-leb 0 (lg p) (omega arith))
 
 -- every request of a write fits 2,566 bytes: its body is at most a digest and a signature
 pub body-short : (p j : ℕ) (w : Write) (σ : State) (held : List ℕ) → w .length ≤ 1024 → length (σ .signature) ≡ longestSignature
-    → length (writeBody p j (σ .path) (heldEntry w held) (σ .signature)) ≤ longestCommit
+    → length (writeBody p j (σ .path) (heldEntry w held) (σ .signature)) ≤ 32 + longestSignature
 unfolding writeBody pathDigest heldEntry
 body-short p j w σ held short z =
-    by-cond (λ (q : List ℕ). length q ≤ longestCommit) (leb j (lg p)) _ _ (λ e. omega (arith, piece-length (σ .path) (lg p)))
-    (λ e. by-cond (λ (q : List ℕ). length q ≤ longestCommit) (eqb j (lg p + 1)) _ _ (λ d. omega (arith, length-take (w .length) held))
-    (λ d. by-cond (λ (q : List ℕ). length q ≤ longestCommit) (ltb j (commitNumber p)) _ _ (λ c. omega (arith, piece-length (σ .path) (writeLevel p j)))
+    by-cond (λ (q : List ℕ). length q ≤ 32 + longestSignature) (leb j (lg p)) _ _ (λ e. omega (arith, piece-length (σ .path) (lg p)))
+    (λ e. by-cond (λ (q : List ℕ). length q ≤ 32 + longestSignature) (eqb j (lg p + 1)) _ _ (λ d. omega (arith, length-take (w .length) held))
+    (λ d. by-cond (λ (q : List ℕ). length q ≤ 32 + longestSignature) (ltb j (commitNumber p)) _ _ (λ c. omega (arith, piece-length (σ .path) (writeLevel p j)))
     (λ c. omega (arith, length-append (piece (σ .path) (lg p)) (σ .signature), piece-length (σ .path) (lg p)))))
 
 -- the sizes that an entry may have

@@ -13,7 +13,7 @@ use Rattle.user_write.specs.declared.call.Write.{Write}
 use Rattle.user_give_up.specs.declared.call.GiveUp.{GiveUp}
 use Rattle.user_give_up.specs.GiveUp.{waiting, noGiveUp, nextTold, giveUpWant, giveUpSetup, beginning, closed, giveUpGoes, giveUpStarted}
 use Rattle.user_write.specs.Write.{pathDigest, writeRoom, writeStartChecks, freshWrite, noWrite, heldEntry, writeAsks, writeWaits, writeStarted}
-use Rattle.user_read.specs.Read.{readChecks, freshRead, noRead, readAsks, readStarted}
+use Rattle.user_read.specs.Read.{readChecks, readAt, noRead, readAsks, readStarted}
 use Rattle.user_update.proofs.UpdateRules.{endedWith, goingOn}
 use Rattle.user_write.proofs.Writes.{body-first}
 
@@ -54,8 +54,8 @@ module _ (s : Settings) (σ : State) (m : Lent) where
       let σ₀ = stateOf (σ .kept) [] [] in
       let m₀ = lentOf [] [] (m .request) (m .entry) (keyOf [] [] []) in
       let code = firstCode (readChecks s (σ .kept) i m) in
-      by-bool (λ b. cond b (readAsks s σ m (freshRead i)) (refusal code [] σ m (noRead i))
-      ≡ restored σ m (cond b (readAsks s σ₀ m₀ (freshRead i)) (refusal code [] σ₀ m₀ (noRead i))))
+      by-bool (λ b. cond b (readAsks s σ m (readAt i 0)) (refusal code [] σ m (noRead i))
+      ≡ restored σ m (cond b (readAsks s σ₀ m₀ (readAt i 0)) (refusal code [] σ₀ m₀ (noRead i))))
       (eqb code 0) (λ _. refl) (λ _. refl)
 
   -- A give-up is lent the path and the request buffer.

@@ -7,7 +7,7 @@ use lib.ListN.{length, getD}
 use borrow.Author.Tests.{le-leb, lt-leb}
 use Rattle.lms.specs.Calls.{generateCode, generated}
 use Rattle.lms.proofs.Words.{seed-back}
-use Rattle.lms.proofs.ByType.{row-of, height-of}
+use Rattle.lms.proofs.ByType.{row-of, height-of, tree-short}
 use borrow.Author.Needs.{needs}
 use Rattle.lms.proofs.generate.Statement.{statement}
 use Rattle.lms.proofs.generate.Tie as tie
@@ -21,9 +21,7 @@ tree-size-requires c κs = rw (c .lms .ensures) (height-of (c .before .before .a
 returns : tie.Need-returns
 unfolding generateCode generated
 returns c =
-    let args = c .before .before .before .before .args in
-    let the-lms = c .before .before .lms .ensures in
-    rw (lt-leb _ (length (args .nodes .now)) (rw (c .before .tree-size .ensures, the-lms) at (c .if1 .taken))) (refl, refl)
+    rw (tree-short _ _ _ (c .before .before .before .before .args .nodes .now) (c .before .before .lms .ensures) (c .before .tree-size .ensures) (c .if1 .taken)) (refl, refl)
 
 slice-aggregate-words : tie.Need-slice-aggregate-words
 slice-aggregate-words c = search needs

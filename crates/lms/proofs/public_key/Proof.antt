@@ -9,7 +9,7 @@ use lib.ListN.{length}
 use lib.Seq.{length-take-le}
 use Prim.Native.Nat.{_≤_}
 use mathlib.Core.Path.{refl, _∙_, ap}
-use Rattle.lms.proofs.ByType.{row-of, height-of}
+use Rattle.lms.proofs.ByType.{row-of, height-of, tree-short}
 use borrow.Author.Needs.{needs}
 use Rattle.lms.proofs.public_key.Statement.{statement}
 use Rattle.lms.proofs.public_key.Tie as tie
@@ -26,9 +26,7 @@ tree-size-requires c κs = rw (c .lms .ensures) (height-of (c .before .before .b
 returns : tie.Need-returns
 unfolding publicKeyCode publicKeyWritten
 returns c =
-    let args = c .before .before .before .before .before .before .args in
-    let the-lms = c .before .before .lms .ensures in
-    rw (lt-leb _ (length (args .nodes .now)) (rw (c .before .tree-size .ensures, the-lms) at (c .if1 .taken))) (refl, refl)
+    rw (tree-short _ _ _ (c .before .before .before .before .before .before .args .nodes .now) (c .before .before .lms .ensures) (c .before .tree-size .ensures) (c .if1 .taken)) (refl, refl)
 
 returns-2 : tie.Need-returns-2
 unfolding publicKeyCode publicKeyWritten

@@ -10,7 +10,7 @@ use mir.Syntax.{w8}
 use native.Mathlib.Omega.{arith}
 use Prim.Native.Nat.{ℕ}
 use mathlib.Core.Path.{refl}
-use Rattle.lms.proofs.ByType.{row-of, height-of}
+use Rattle.lms.proofs.ByType.{row-of, height-of, tree-short}
 use Rattle.lms.proofs.sign.Statement.{statement}
 use Rattle.lms.proofs.sign.Tie as tie
 
@@ -26,9 +26,7 @@ tree-size-requires c κs = rw (c .lms .ensures) (height-of (c .before .before .b
 returns : tie.Need-returns
 unfolding signCode signed
 returns c =
-    let args = c .before .before .before .before .before .before .before .args in
-    let the-lms = c .before .before .lms .ensures in
-    rw (lt-leb _ (length (args .nodes .now)) (rw (c .before .tree-size .ensures, the-lms) at (c .if1 .taken))) (refl, refl)
+    rw (tree-short _ _ _ (c .before .before .before .before .before .before .before .args .nodes .now) (c .before .before .lms .ensures) (c .before .tree-size .ensures) (c .if1 .taken)) (refl, refl)
 
 signature-size-requires : tie.Need-signature-size-requires
 signature-size-requires c κs =

@@ -21,10 +21,8 @@ both-requires-2 c κs = search needs
 returns : tie.Need-returns
 unfolding groupFits
 returns c =
-    let at-most = c .before .before .before .before .at-most .ensures in
-    let at-most2 = c .before .before .before .at-most2 .ensures in
-    let list-fits = c .before .before .list-fits .ensures in
-    rw (c .both2 .ensures, c .before .both .ensures, list-fits, at-most2, at-most)
+    let d = c .before .before in
+    rw (c .both2 .ensures, c .before .both .ensures, d .list-fits .ensures, d .before .at-most2 .ensures, d .before .before .at-most .ensures)
 
 pub group-fits-spec : {M : Type 1} → statement M
 group-fits-spec =

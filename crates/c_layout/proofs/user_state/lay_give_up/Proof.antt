@@ -9,15 +9,8 @@ mark-requires c κs = search needs
 slice-aggregate-lay : tie.Need-slice-aggregate-lay
 slice-aggregate-lay c = search needs
 
-lay-requires : tie.Need-lay-requires
-lay-requires c κs = search needs
-
-same-length : tie.Need-same-length
-same-length c = search needs
-
 returns : tie.Need-returns
 returns c = give-up-left _ _ _ _ _ (c .before .before .before .before .before .mark .ensures) (c .before .before .lay .ensures)
 
 pub lay-give-up-spec : {M : Type 1} → statement M
-lay-give-up-spec =
-    tie.close (tie.spec mark-requires slice-aggregate-lay lay-requires same-length returns)
+lay-give-up-spec = tie.close (tie.spec mark-requires slice-aggregate-lay (λ c κs. search needs) (λ c. search needs) returns)
