@@ -30,7 +30,7 @@ use Rattle.user_list.proofs.Lists.{group-fits}
 use Rattle.server.proofs.Served.{served-refused}
 use Rattle.server.proofs.Sizes.{answer-at-most-2552}
 use Rattle.tree.specs.declared.setup.Config.{Config}
-use Rattle.server.specs.Inner.{Serves}
+use Rattle.server.specs.Inner.{ServeYields}
 use Rattle.c_layout.specs.Inner.{configOf}
 use Rattle.c_layout.specs.Mark.{markOf}
 use Rattle.c_layout.specs.Server.{placeBytes, headBytes, earlierOf, headOf, resultOf, serverAnswered, ServerYields}
@@ -228,7 +228,7 @@ pub record Called (servers own : ℕ) (log users head store : List ℕ) (used : 
 
 module _ {servers own : ℕ} {log users head store : List ℕ} {used : ℕ} {q answer : List ℕ} {out : Out} {s a : List ℕ} where
   pub called : {config : Config} {before : Head} → config ≡ configOf servers own log → before ≡ headOf head
-      → Serves (served (settingsOf config users) before store used q answer) out s a
+      → ServeYields (served (settingsOf config users) before store used q answer) out s a
       → Called servers own log users head store used q answer out s a
   unfolding configOf
   called en eb e =

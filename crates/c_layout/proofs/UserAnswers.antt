@@ -14,7 +14,7 @@ use Rattle.tree.proofs.Cases.{by-bool, and-true}
 use Rattle.tree.proofs.CheckLists.{code-then}
 use Rattle.user_list.specs.Users.{leastRequest}
 use Rattle.user.specs.declared.call.Kept.{Kept}
-use Rattle.user.specs.declared.call.Step.{Step}
+use Rattle.user.specs.declared.call.StepResult.{StepResult}
 use Rattle.user_update.specs.declared.call.Update.{Update}
 use Rattle.user_update.specs.declared.call.UpdateStep.{UpdateStep}
 use Rattle.user_write.specs.declared.call.Write.{Write}
@@ -41,7 +41,7 @@ use Rattle.user_calls.proofs.Unchanged.{update-keeps, write-keeps}
 use Rattle.c_layout.specs.User.{keptOf, updateOf, writeOf, readOf, giveUpOf, callBytes, callOf, callAfter, keptAfter, keptBy}
 use Rattle.c_layout.specs.User.{askedOf, UserLent, userLent, stateIn, lentIn, userLeft, answeredBy, userAnswered, UserYields}
 use Rattle.c_layout.specs.Inner.{configOf}
-use Rattle.c_layout.specs.declared.using.Asked.{Asked}
+use Rattle.c_layout.specs.declared.user_start.Asked.{Asked}
 use Rattle.c_layout.proofs.Narrowed.{step-passed-on}
 
 -- lent bytes are the same where those of each buffer are
@@ -145,13 +145,13 @@ module _ (s : Settings) (a kept path signature call hashes held request entry : 
             (sym (same .hashes)) (sym (same .held)) (f .1) (sym (same .entry)),
       )
 
-  pub stray-answered : (room z : Bool) (setup code : ℕ) (step : Step) → room ≡ leb leastRequest (length request) → setup ≡ firstCode (userSetupChecks s k room)
+  pub stray-answered : (room z : Bool) (setup code : ℕ) (step : StepResult) → room ≡ leb leastRequest (length request) → setup ≡ firstCode (userSetupChecks s k room)
       → z ≡ eqb setup 0 → code ≡ cond z 10 setup → step ≡ refused code a → r ≡ askedOf step nothing
       → UserYields (answeredBy s before key idle a) r before
   unfolding answeredBy userLeft stepped taken keptBy refused
   stray-answered room z setup code step eo es ez ec et er =
       let e = stray-coded s (stateIn before) (lentIn before key) room z setup code eo (rw ek at es) ez ec in
-      (er ∙ ap (λ (y : Step). askedOf y nothing) (et ∙ ap (λ (y : ℕ). refused y a) e), same-lent refl refl refl (call-none _ call) refl refl refl refl)
+      (er ∙ ap (λ (y : StepResult). askedOf y nothing) (et ∙ ap (λ (y : ℕ). refused y a) e), same-lent refl refl refl (call-none _ call) refl refl refl refl)
 
 -- the call that the bytes stand for, by their kind
 module _ (b : List ℕ) (kind : ℕ) (ek : kind ≡ getD b 0 0) where

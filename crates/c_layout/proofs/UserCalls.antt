@@ -33,8 +33,8 @@ use Rattle.c_layout.specs.User.{keptOf, callBytes, callOf, callAfter, ke
 use Rattle.c_layout.specs.User.{stateIn, lentIn, userLeft, userBegun, updateBegun, readBegun, writeBegun}
 use Rattle.c_layout.specs.User.{giveUpBegun, Begins, WriteBegins, GiveUpBegins, settledAnswer}
 use Rattle.c_layout.specs.Inner.{configOf}
-use Rattle.c_layout.specs.declared.using.Asked.{Asked}
-use Rattle.c_layout.specs.declared.using.SettledAnswer.{SettledAnswer}
+use Rattle.c_layout.specs.declared.user_start.Asked.{Asked}
+use Rattle.c_layout.specs.declared.user_start.SettledAnswer.{SettledAnswer}
 use Rattle.c_layout.proofs.Narrowed.{settled-passed-on, step-passed-on}
 
 module _ (servers own : ℕ) (log users : List ℕ) (config : Config) (eg : config ≡ configOf servers own log) where

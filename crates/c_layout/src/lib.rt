@@ -3,6 +3,6 @@
 mod marks;
 mod numbers;
 pub mod serving;
-pub mod taking;
+pub mod user_answer;
+pub mod user_start;
 mod user_state;
-pub mod using;

@@ -3,7 +3,7 @@ ghost use mathlib.Core.Path.{_≡_};
 ghost use Prim.Native.Nat.{_≤_};
 ghost use Rattle.tree.specs.Inner.{settingsOf};
 ghost use Rattle.server.specs.Serve.{served};
-ghost use Rattle.server.specs.Inner.{Serves};
+ghost use Rattle.server.specs.Inner.{ServeYields};
 ghost use Rattle.c_layout.specs.Server.{placeBytes, headBytes, earlierOf, headOf, resultOf, serverAnswered, ServerYields};
 use super::marks;
 use super::numbers;
@@ -107,7 +107,7 @@ fn on_head(
     request: &[u8],
     answer: &mut [u8],
 ) -> Out
-    ensures { λ r. ⌜ Serves
+    ensures { λ r. ⌜ ServeYields
         (served (settingsOf config (now (users .entry))) head (now (store .entry)) used (now (request .entry)) (now (answer .entry)))
         r (now (store .exit)) (now (answer .exit)) ⌝ }
 {

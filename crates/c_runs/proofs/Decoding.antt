@@ -12,7 +12,7 @@ use Rattle.sha256.proofs.Laws.{be-length, written-fits, written-length}
 use Rattle.tree.specs.Setup.{Settings}
 use Rattle.tree.proofs.Cases.{by-bool}
 use Rattle.user.specs.declared.call.Kept.{Kept}
-use Rattle.user.specs.declared.call.Step.{Step}
+use Rattle.user.specs.declared.call.StepResult.{StepResult}
 use Rattle.user.specs.declared.call.Found.{Found}
 use Rattle.user.specs.Outcome.{State, Lent, Outcome}
 use Rattle.user_update.specs.declared.call.Update.{Update}
@@ -73,11 +73,11 @@ call-laid c b f l =
     read-back c f (written b 0 (callBytes c)) _ (written-fits b 0 (callBytes c) (omega arith))
 
 -- the result of a step stands for it
-step-read : (x : Step) (f : Found) → stepOf (askedOf x f) ≡ x
+step-read : (x : StepResult) (f : Found) → stepOf (askedOf x f) ≡ x
 unfolding stepOf askedOf
 step-read x f = rw (mark-read (x .ended))
 
-found-read : (x : Step) (f : Found) → _≡_ {A = Found} (record { author = askedOf x f .author; length = askedOf x f .entry }) f
+found-read : (x : StepResult) (f : Found) → _≡_ {A = Found} (record { author = askedOf x f .author; length = askedOf x f .entry }) f
 unfolding askedOf
 found-read x f = refl
 

@@ -8,7 +8,7 @@ use lib.Dec.{eqb}
 use borrow.Author.Tests.{ne-eqb}
 use Rattle.tree.proofs.Cases.{by-bool, by-eqb, cases-eq}
 use Rattle.user.specs.declared.call.Kept.{Kept}
-use Rattle.user.specs.declared.call.Step.{Step}
+use Rattle.user.specs.declared.call.StepResult.{StepResult}
 use Rattle.user_calls.specs.Calls.{Input, startUpdate, startWrite, startRead, startGiveUp, answer}
 use Rattle.server.specs.declared.Head.{Head}
 use Rattle.c_layout.specs.Server.{headOf, resultOf, serverAnswered}
@@ -115,7 +115,7 @@ module _ (c : HonestSetup) (w : ByteNetwork) (h : Holds c w) (a : ℕ) (i : Inpu
       ∙ ap (λ (n : Network). steps c (arrives c n a) a (comesBack c n a)) (after-same k)
 
   -- what a step hands back, and what its function gives: the same, or both are refusals
-  abbrev SameOrRefused : Step → Step → Type 0
+  abbrev SameOrRefused : StepResult → StepResult → Type 0
   SameOrRefused x y = (y ≡ x) ⊎ ((x .code ≡ 0 → ⊥) × (y .code ≡ 0 → ⊥))
 
   given-same : (u : UserBytes) → Laid (settingsIn c a) u → (j : Input) → Sized j
@@ -141,11 +141,11 @@ module _ (c : HonestSetup) (w : ByteNetwork) (h : Holds c w) (a : ℕ) (i : Inpu
 
   code-same : (k : ℕ) → eqb (handed (inBytes c) w a i k .code) 0 ≡ eqb (handed (inRecords c) (networkOf w) a i k .code) 0
   code-same k =
-      ⊎-elim (λ e. ap (λ (x : Step). eqb (x .code) 0) e)
+      ⊎-elim (λ e. ap (λ (x : StepResult). eqb (x .code) 0) e)
       (λ n. ne-eqb (handed (inBytes c) w a i k .code) 0 (n .1) ∙ sym (ne-eqb (handed (inRecords c) (networkOf w) a i k .code) 0 (n .0))) (handed-same k)
 
 -- a refused step writes nothing
-wrote-nothing : (a : ℕ) (i : Input) (x : Step) → (x .code ≡ 0 → ⊥) → wrote a i x ≡ []
+wrote-nothing : (a : ℕ) (i : Input) (x : StepResult) → (x .code ≡ 0 → ⊥) → wrote a i x ≡ []
 unfolding wrote returned
 wrote-nothing a i x n =
     let e : x .ended && eqb (x .code) 0 ≡ false = rw (ne-eqb (x .code) 0 n) (by-bool (λ t. t && false ≡ false) (x .ended) (λ _. refl) (λ _. refl)) in
@@ -267,7 +267,7 @@ byte-honest-run c range b xs sized all a i valid =
     subst Runs (sym e) (honest-run c range (zeroWorld b) xs (valid-same c b xs sized all) a i (subst (λ (q : Run Network). ValidCall c q a i) e valid)) in (
       λ k within.
           let step = all-runs .0 k within in
-          subst (λ (x : Step). (x .code ≡ 0) × (x .ended ≡ eqb k n)) (sym (handed-zero c (r .network) h a i size k (step .0))) step,
+          subst (λ (x : StepResult). (x .code ≡ 0) × (x .ended ≡ eqb k n)) (sym (handed-zero c (r .network) h a i size k (step .0))) step,
       subst (λ (w : Network). Serves (stood c b xs) a (w .users a) i) (sym (after-same c (r .network) h a i size n)) (all-runs .1),
       subst (λ (w : Network). BringsBack c (stood c b) xs w i) (sym (after-same c (r .network) h a i size n)) (brings-same c b xs sized _ i (all-runs .2)),
     )

@@ -5,11 +5,11 @@ use Prim.Native.Nat.{ℕ}
 use lib.Dec.{eqb}
 use lib.ListN.{replicate}
 use Rattle.tree.specs.Setup.{Settings}
-use Rattle.user.specs.declared.call.Step.{Step}
+use Rattle.user.specs.declared.call.StepResult.{StepResult}
 use Rattle.user.specs.declared.call.Found.{Found}
 use Rattle.user.specs.Outcome.{Key, keyOf, Lent, Outcome}
 use Rattle.user_calls.specs.Calls.{Call, idle, Input, startUpdate, startWrite, startRead, startGiveUp, answer}
-use Rattle.c_layout.specs.declared.using.Asked.{Asked}
+use Rattle.c_layout.specs.declared.user_start.Asked.{Asked}
 use Rattle.c_layout.specs.User.{UserLent, userLent, stateIn, lentIn, callOf, UserOutcome, updateBegun}
 use Rattle.c_layout.specs.User.{writeBegun, readBegun, giveUpBegun, userAnswered}
 use Rattle.c_layout.specs.Server.{ServerOutcome}
@@ -33,7 +33,7 @@ userOf u =
     record { state = stateIn b; call = call; lent = lentIn b (u .key); sent = u .sent; view = u .view; reads = u .reads }
 
 -- The step that a function's result stands for, and with the bytes after the call what the step leaves.
-unfoldable pub stepOf : Asked → Step
+unfoldable pub stepOf : Asked → StepResult
 stepOf r = record { code = r .code; refusal = r .refusal; ended = eqb (r .ended) 1; server = r .server; length = r .length }
 
 unfoldable pub outcomeOf : UserOutcome → Key → Outcome Call

@@ -2,7 +2,7 @@
 use mathlib.Core.List.{List, [], _∷_}
 use Prim.Native.Nat.{ℕ}
 use lib.ListN.{take}
-use Rattle.user.specs.declared.call.Step.{Step as Handed}
+use Rattle.user.specs.declared.call.StepResult.{StepResult}
 use Rattle.user_calls.specs.Calls.{Input, answer}
 use Rattle.c_layout.specs.Server.{headOf, ServerOutcome, serverAnswered}
 use Rattle.whole_run.specs.World.{Setup, settingsFor, Sent, eventsOf}
@@ -63,7 +63,7 @@ byteSteps c w a i = record { users = set (w .users) a (userCalled (settingsIn c 
 -- So whole calls and lists of calls are those of `honest_run`, of this kind of network, from the zero bytes on. A step hands back what the
 -- function gives.
 abbrev pub inBytes : HonestSetup → Kind
-inBytes c = let hands : ByteNetwork → ℕ → Input → Handed = λ w a i. stepOf (called (settingsIn c a) (w .users a) i .result) in
+inBytes c = let hands : ByteNetwork → ℕ → Input → StepResult = λ w a i. stepOf (called (settingsIn c a) (w .users a) i .result) in
     let steps = byteSteps c in
     record { State = ByteNetwork; seen = networkOf; arrives = byteArrives c; steps = steps; hands = hands; comesBack = byteAnswer c }
 

@@ -2,7 +2,7 @@
 use crate::links;
 use crate::step;
 use crate::step::Step;
-use c_layout::using::Asked;
+use c_layout::user_start::Asked;
 use sha256::bytes;
 use state_files::arguments::Settings;
 use state_files::user_file;

@@ -5,8 +5,8 @@ use crate::key;
 use crate::show;
 use crate::step;
 use crate::step::Step;
-use c_layout::using;
-use c_layout::using::Asked;
+use c_layout::user_start;
+use c_layout::user_start::Asked;
 use programs::print;
 use sha256::bytes;
 use state_files::arguments;
@@ -90,7 +90,7 @@ fn settled(g: Settings, keys: &[u8], memory: &[u8]) {
     let mut kept = [0u8; 46];
     step::load(memory, user_file::KEPT, &mut kept);
     let log = g.log;
-    let s = using::settled(
+    let s = user_start::settled(
         g.servers,
         g.own,
         &log,

@@ -1,7 +1,7 @@
 // What is printed of calls, entries and the user's state.
 use crate::advice;
 use crate::call;
-use c_layout::using::Asked;
+use c_layout::user_start::Asked;
 use firing::entry;
 use programs::print;
 use programs::sentence;

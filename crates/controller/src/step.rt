@@ -1,9 +1,9 @@
 // A step of a user's call: its start, or an answer that it takes in. The user's memory is one slice of 14,850 bytes: its state
 // (`user_file`), the state as it was saved last, the call, its hashes, the held entry, the request, the entry that is read and the links.
 use crate::key;
-use c_layout::taking;
-use c_layout::using;
-use c_layout::using::Asked;
+use c_layout::user_answer;
+use c_layout::user_start;
+use c_layout::user_start::Asked;
 use sha256::bytes;
 use state_files::arguments::Settings;
 use state_files::user_file;
@@ -64,10 +64,10 @@ fn start(
     let log = g.log;
     let users = key::users(keys);
     if step.kind == 1 {
-        return using::update_start(n, own, &log, users, kept, call, request);
+        return user_start::update_start(n, own, &log, users, kept, call, request);
     }
     if step.kind == 3 {
-        return using::read_start(
+        return user_start::read_start(
             n,
             own,
             &log,
@@ -80,7 +80,7 @@ fn start(
         );
     }
     if step.kind == 4 {
-        return using::give_up_start(n, own, &log, users, kept, path, call, request);
+        return user_start::give_up_start(n, own, &log, users, kept, path, call, request);
     }
     write_start(g, keys, input, kept, path, call, held, request)
 }
@@ -98,7 +98,7 @@ fn write_start(
 ) -> Asked {
     let log = g.log;
     let randomizer = key::randomizer(keys, bytes::front(bytes::from(kept, 36), 4), input);
-    using::write_start(
+    user_start::write_start(
         g.servers,
         g.own,
         &log,
@@ -135,7 +135,7 @@ fn lent(
     let log = g.log;
     let id = key::identifier(keys);
     let seed = key::seed(keys);
-    taking::take(
+    user_answer::take(
         g.servers,
         g.own,
         &log,

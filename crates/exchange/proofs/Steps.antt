@@ -7,7 +7,7 @@ use lib.ListN.{take, drop, getD, replicate}
 use Rattle.sha256.specs.Bytes.{be}
 use Rattle.sha256.proofs.Laws.{be-mod}
 use Rattle.user.specs.Outcome.{keyOf}
-use Rattle.c_layout.specs.declared.using.Asked.{Asked}
+use Rattle.c_layout.specs.declared.user_start.Asked.{Asked}
 use Rattle.c_layout.specs.User.{UserLent, updateBegun, readBegun, writeBegun, giveUpBegun, userAnswered, Begins, WriteBegins, GiveUpBegins, UserYields}
 use Rattle.exchange.specs.declared.buffers.Buffers.{Buffers}
 use Rattle.exchange.specs.declared.user_place.Settings.{Settings}

@@ -10,8 +10,8 @@ use Rattle.tree.specs.Setup.{settings}
 use Rattle.tree.specs.Setup.{Settings as Group}
 use Rattle.programs.specs.Key.{treeAt}
 use Rattle.user.specs.Outcome.{keyOf}
-use Rattle.c_layout.specs.declared.using.Asked.{Asked}
-use Rattle.c_layout.specs.declared.using.SettledAnswer.{SettledAnswer}
+use Rattle.c_layout.specs.declared.user_start.Asked.{Asked}
+use Rattle.c_layout.specs.declared.user_start.SettledAnswer.{SettledAnswer}
 use Rattle.c_layout.specs.User.{UserLent, userLent, updateBegun, readBegun, writeBegun, giveUpBegun, userAnswered, settledAnswer}
 use Rattle.exchange.specs.declared.buffers.Buffers.{Buffers}
 use Rattle.exchange.specs.declared.user_place.Settings.{Settings}

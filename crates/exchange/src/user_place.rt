@@ -6,9 +6,9 @@ ghost use Rattle.exchange.specs.UserStep.{lastStart, stepBytes, stepLaid
 ghost use Rattle.lines.specs.Memory.{zeros};
 use crate::buffers;
 use crate::user_step;
-use c_layout::using;
-use c_layout::using::Asked;
-use c_layout::using::SettledAnswer;
+use c_layout::user_start;
+use c_layout::user_start::Asked;
+use c_layout::user_start::SettledAnswer;
 use programs::key;
 use sha256::bytes;
 
@@ -188,5 +188,5 @@ pub fn settled(s: Settings, keys: &[u8], place: &[u8]) -> SettledAnswer
     let log = key::LOG;
     let kept = buffers::kept_of(place);
     let users = bytes::front(keys, s.users as usize);
-    using::settled(s.servers, s.own, &log, users, &kept, s.number)
+    user_start::settled(s.servers, s.own, &log, users, &kept, s.number)
 }

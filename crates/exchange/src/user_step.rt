@@ -5,9 +5,9 @@ ghost use lib.ListN.{length};
 ghost use Rattle.exchange.specs.UserStep.{treeLent, callStarted, updateMade, readMade, writeMade, giveUpMade, answerMade, stepMade};
 use crate::buffers::Buffers;
 use crate::user_place::Settings;
-use c_layout::taking;
-use c_layout::using;
-use c_layout::using::Asked;
+use c_layout::user_answer;
+use c_layout::user_start;
+use c_layout::user_start::Asked;
 use programs::key;
 use programs::line;
 use sha256::bytes;
@@ -67,7 +67,7 @@ fn update_made(s: Settings, users: &[u8], room: usize, b: Buffers) -> Outcome
     let mut call = b.call;
     let held = b.held;
     let mut request = b.request;
-    let asked = using::update_start(
+    let asked = user_start::update_start(
         s.servers,
         s.own,
         &log,
@@ -90,7 +90,7 @@ fn read_made(s: Settings, users: &[u8], room: usize, b: Buffers) -> Outcome
     let held = b.held;
     let mut request = b.request;
     let entry = b.entry;
-    let asked = using::read_start(
+    let asked = user_start::read_start(
         s.servers,
         s.own,
         &log,
@@ -123,7 +123,7 @@ fn write_made(
     let mut call = b.call;
     let mut held = b.held;
     let mut request = b.request;
-    let asked = using::write_start(
+    let asked = user_start::write_start(
         s.servers,
         s.own,
         &log,
@@ -151,7 +151,7 @@ fn give_up_made(s: Settings, users: &[u8], room: usize, b: Buffers) -> Outcome
     let mut call = b.call;
     let held = b.held;
     let mut request = b.request;
-    let asked = using::give_up_start(
+    let asked = user_start::give_up_start(
         s.servers,
         s.own,
         &log,
@@ -197,7 +197,7 @@ fn answer_made(
     let mut held = b.held;
     let mut request = b.request;
     let mut entry = b.entry;
-    let asked = taking::take(
+    let asked = user_answer::take(
         s.servers,
         s.own,
         &log,

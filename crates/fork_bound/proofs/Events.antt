@@ -15,7 +15,7 @@ use Rattle.tree.specs.Message.{signedText}
 use Rattle.tree.specs.Setup.{Settings, on, firstCode}
 use Rattle.tree.proofs.Cases.{not-both}
 use Rattle.user.specs.declared.call.Kept.{Kept}
-use Rattle.user.specs.declared.call.Step.{Step}
+use Rattle.user.specs.declared.call.StepResult.{StepResult}
 use Rattle.user.specs.Asking.{userSetupChecks, requestRoom}
 use Rattle.user.specs.Outcome.{State, Lent, Outcome}
 use Rattle.user.proofs.Passed.{setup-passed, by-cond}
@@ -111,7 +111,7 @@ module _ (P : Event → Type 0) (of-hashed : (t : List ℕ) → P (hashed t)) (o
     accepted-events (answer a) f z = answer-events a (u .call) f z
 
 -- the request that a step hands out
-pub handed-event : (a : ℕ) (x : Step) (buffer : List ℕ) (e : Event) → List·Memᴰ e (handedEvents a x buffer)
+pub handed-event : (a : ℕ) (x : StepResult) (buffer : List ℕ) (e : Event) → List·Memᴰ e (handedEvents a x buffer)
     → e ≡ handedOut a (sentBy x buffer .server) (sentBy x buffer .bytes)
 unfolding handedEvents
 handed-event a x buffer e =

@@ -6,7 +6,7 @@ use Prim.Native.Nat.{ℕ, suc, _+_, _≤_, _<_}
 use lib.Dec.{eqb}
 use lib.ListN.{length, take, getD}
 use Rattle.tree.specs.Bytes.{written}
-use Rattle.user.specs.declared.call.Step.{Step}
+use Rattle.user.specs.declared.call.StepResult.{StepResult}
 use Rattle.user.specs.Outcome.{State, Lent, withHashes, withRequest}
 use Rattle.firing.specs.Entry.{entryFits}
 use Rattle.user_update.specs.declared.call.Update.{Update}
@@ -173,7 +173,7 @@ pub record OnWay (c : HonestSetup) (r : Run Network) (a : ℕ) (i : Input) (left
   pub call : CallOk c log w g a left (x .users a) (x .servers) i
 
 -- a call of user a that has ended with 0
-pub record Over (c : HonestSetup) (r : Run Network) (a : ℕ) (i : Input) (handed : Step) (x : Network) : Type 0 where
+pub record Over (c : HonestSetup) (r : Run Network) (a : ℕ) (i : Input) (handed : StepResult) (x : Network) : Type 0 where
   pub log : ℕ → Item
   pub w : ℕ
   pub g : ℕ

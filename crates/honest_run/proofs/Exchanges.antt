@@ -5,7 +5,7 @@ use Prim.Native.Nat.{ℕ, suc}
 use Rattle.tree.specs.Message as Message
 use Rattle.server.specs.Serve.{ServeOutcome}
 use Rattle.user.specs.declared.ask.Want.{Want}
-use Rattle.user.specs.declared.call.Step.{Step}
+use Rattle.user.specs.declared.call.StepResult.{StepResult}
 use Rattle.user.specs.Outcome.{Outcome}
 use Rattle.user_write.specs.Write.{writeWant, writeKind, writeLevel}
 use Rattle.user_calls.specs.Calls.{Call, taken, stepped}
@@ -22,7 +22,7 @@ abbrev pub exchanged : HonestSetup → Network → ℕ → Network
 exchanged c x a = steps c (arrives c x a) a (comesBack c x a)
 
 -- what the answer's step hands back
-abbrev pub handedBy : HonestSetup → Network → ℕ → Step
+abbrev pub handedBy : HonestSetup → Network → ℕ → StepResult
 handedBy c x a = userStep (settingsIn c a) (x .users a) (comesBack c x a) .step
 
 -- what call k of user a makes of the answer y

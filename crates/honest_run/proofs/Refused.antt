@@ -15,7 +15,7 @@ use Rattle.tree.proofs.Cases.{and-true, cases-eq, not-both}
 use Rattle.user_list.specs.Users.{leastRequest}
 use Rattle.server.proofs.Theorems.{pull-changes-nothing}
 use Rattle.user.specs.declared.ask.Want.{Want}
-use Rattle.user.specs.declared.call.Step.{Step}
+use Rattle.user.specs.declared.call.StepResult.{StepResult}
 use Rattle.user.specs.Asking.{requestRoom, asks, refused, done, asking}
 use Rattle.user.specs.Outcome.{State, Lent, Outcome}
 use Rattle.user.proofs.Passed.{setup-passed, by-cond}
@@ -43,13 +43,13 @@ use Rattle.honest_run.proofs.Moves.{good-same}
 use Rattle.honest_run.proofs.Calls.{Holds, begunBy, Between}
 
 -- nothing is written by a step that is refused
-wrote-refused : (a : ℕ) (i : Input) (z : Step) → (z .code ≡ 0 → ⊥) → wrote a i z ≡ []
+wrote-refused : (a : ℕ) (i : Input) (z : StepResult) → (z .code ≡ 0 → ⊥) → wrote a i z ≡ []
 unfolding wrote returned
 wrote-refused a i z n =
     by-bool (λ t. cond {A = List Written} (t && eqb (z .code) 0) (map (λ e. record { author = a; entry = e }) (entriesOf i)) [] ≡ []) (z .ended)
     (λ _. rw (ne-eqb (z .code) 0 n)) (λ _. refl)
 
-pub log-same : (r : Run Network) (a : ℕ) (i : Input) (z : Step) → (z .code ≡ 0 → ⊥) → r .log ++ wrote a i z ≡ r .log
+pub log-same : (r : Run Network) (a : ℕ) (i : Input) (z : StepResult) → (z .code ≡ 0 → ⊥) → r .log ++ wrote a i z ≡ r .log
 log-same r a i z n = ap (λ (y : List Written). r .log ++ y) (wrote-refused a i z n) ∙ append-nil (r .log)
 
 -- What a step with code 0 leaves of a user that kept σ, where its call only pulls then: what was kept, and a pull as the request that is out.

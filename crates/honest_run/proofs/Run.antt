@@ -9,7 +9,7 @@ use lib.Dec.{eqb}
 use borrow.Author.Tests.{eq-eqb, ne-eqb}
 use Rattle.sha256.proofs.Cases.{by-bool}
 use Rattle.tree.proofs.Cases.{cases-le, cases-eq}
-use Rattle.user.specs.declared.call.Step.{Step}
+use Rattle.user.specs.declared.call.StepResult.{StepResult}
 use Rattle.user.specs.Outcome.{Lent}
 use Rattle.user_calls.specs.Calls.{Input, startUpdate, startWrite, startRead, startGiveUp, answer}
 use Rattle.whole_run.specs.World.{returned}
@@ -22,12 +22,12 @@ use Rattle.honest_run.proofs.Frames.{runFrom}
 use Rattle.honest_run.proofs.BroughtBack.{heads-same}
 
 -- nothing is written by a step that does not end its call
-pub wrote-nothing : (a : ℕ) (i : Input) (z : Step) → z .ended ≡ false → wrote a i z ≡ []
+pub wrote-nothing : (a : ℕ) (i : Input) (z : StepResult) → z .ended ≡ false → wrote a i z ≡ []
 unfolding wrote returned
 wrote-nothing a i z e = rw e
 
 -- a give-up writes nothing
-pub given-up-writes : (log : List Written) (a : ℕ) (m : Lent) (z : Step) → log ++ wrote a (startGiveUp m) z ≡ log
+pub given-up-writes : (log : List Written) (a : ℕ) (m : Lent) (z : StepResult) → log ++ wrote a (startGiveUp m) z ≡ log
 unfolding wrote entriesOf
 given-up-writes log a m z =
     ap (λ (y : List Written). log ++ y) (by-bool (λ t. cond {A = List Written} t [] [] ≡ []) (returned z) (λ _. refl) (λ _. refl)) ∙ append-nil log
@@ -37,7 +37,7 @@ module _ (c : HonestSetup) (range : InRange c)
     (step : (r : Run Network) (a : ℕ) (i : Input) (left : ℕ) (x : Network) → ValidCall c r a i → OnWay c r a i (suc left) x → Stepped c r a i left x)
     (late : (r : Run Network) (a : ℕ) (i : Input) (left : ℕ) (x : Network) → ValidCall c r a i → (o : OnWay c r a i (suc left) x)
     → Late c (o .log) (o .w) (begunBy r a i) (arrives c x a))
-    (late-over : (r : Run Network) (a : ℕ) (i : Input) (z : Step) (x : Network) (o : Over c r a i z x)
+    (late-over : (r : Run Network) (a : ℕ) (i : Input) (z : StepResult) (x : Network) (o : Over c r a i z x)
     → Good c (o .log) (o .w) (o .g) (begunBy r a i) (arrives c x a))
     (refusal : (r : Run Network) (x : Act) → Between c r → Refused c r x → Between c (doAct (inRecords c) r x)) where
   -- one valid call

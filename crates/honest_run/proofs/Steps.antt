@@ -10,7 +10,7 @@ use borrow.Author.Tests.{eq-eqb, ne-eqb}
 use Rattle.tree.specs.Expr.{entryText}
 use Rattle.tree.specs.Tree.{digest}
 use Rattle.tree.proofs.Cases.{cases-eq}
-use Rattle.user.specs.declared.call.Step.{Step}
+use Rattle.user.specs.declared.call.StepResult.{StepResult}
 use Rattle.user.specs.Outcome.{State, Outcome}
 use Rattle.user_calls.specs.Calls.{Call, Input}
 use Rattle.whole_run.specs.World.{User, after}
@@ -105,20 +105,20 @@ step-taken c r a i left x k y called comes on ends =
     let o = ends e in
     let swap = exchange-is c x a y k (o .outcome) called comes (o .is) (o .code) in
     record {
-      code = ap (λ (s : Step). s .code) (swap .hands) ∙ o .code;
-      ended = ap (λ (s : Step). s .ended) (swap .hands) ∙ o .ended ∙ sym (eq-eqb left 0 e);
+      code = ap (λ (s : StepResult). s .code) (swap .hands) ∙ o .code;
+      ended = ap (λ (s : StepResult). s .ended) (swap .hands) ∙ o .ended ∙ sym (eq-eqb left 0 e);
       goes-on = λ more. absurd (omega arith);
       over =
           λ _.
-          subst (λ (s : Step). Over c r a i s (exchanged c x a)) (sym (swap .hands))
+          subst (λ (s : StepResult). Over c r a i s (exchanged c x a)) (sym (swap .hands))
           (subst (Over c r a i (o .outcome .step)) (sym (swap .next)) (o .over));
     })
     (λ n.
     let o = on (omega (arith, n)) in
     let swap = exchange-is c x a y k (o .outcome) called comes (o .is) (o .code) in
     record {
-      code = ap (λ (s : Step). s .code) (swap .hands) ∙ o .code;
-      ended = ap (λ (s : Step). s .ended) (swap .hands) ∙ o .ended ∙ sym (ne-eqb left 0 n);
+      code = ap (λ (s : StepResult). s .code) (swap .hands) ∙ o .code;
+      ended = ap (λ (s : StepResult). s .ended) (swap .hands) ∙ o .ended ∙ sym (ne-eqb left 0 n);
       goes-on = λ _. subst (OnWay c r a i left) (sym (swap .next)) (o .on-way);
       over = λ e. absurd (n e);
     })

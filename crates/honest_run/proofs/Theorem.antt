@@ -6,7 +6,7 @@ use Prim.Native.Nat.{ℕ, suc, _-_, _<_}
 use native.Mathlib.Omega.{arith}
 use Rattle.sha256.proofs.Cases.{by-bool}
 use Rattle.tree.proofs.Cases.{not-both}
-use Rattle.user.specs.declared.call.Step.{Step}
+use Rattle.user.specs.declared.call.StepResult.{StepResult}
 use Rattle.user_calls.specs.Calls.{Input, startUpdate, startWrite, startRead, startGiveUp, answer}
 use Rattle.whole_run.specs.Runs.{NewUser, newUser, NewWorld, newServer, serverAfter}
 use Rattle.honest_run.specs.Network.{HonestSetup, InRange, inRecords, Network, reply, arrives, networkAfter, newNetwork, Run, runOf}
@@ -69,7 +69,7 @@ first-between c range b =
     }
 
 -- a call that has ended has no request out
-late-over : (c : HonestSetup) (r : Run Network) (a : ℕ) (i : Input) (z : Step) (x : Network) (o : Over c r a i z x)
+late-over : (c : HonestSetup) (r : Run Network) (a : ℕ) (i : Input) (z : StepResult) (x : Network) (o : Over c r a i z x)
     → Good c (o .log) (o .w) (o .g) (begunBy r a i) (arrives c x a)
 unfolding arrives
 late-over c r a i z x o =

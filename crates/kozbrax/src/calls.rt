@@ -7,10 +7,10 @@ ghost use Rattle.c_layout.specs.User.{updateBegun, writeBegun, readBegun, giveU
 ghost use Rattle.c_layout.specs.User.{GiveUpBegins, userLent, UserYields, userAnswered, settledAnswer};
 use c_layout::serving;
 use c_layout::serving::Served;
-use c_layout::taking;
-use c_layout::using;
-use c_layout::using::Asked;
-use c_layout::using::SettledAnswer;
+use c_layout::user_answer;
+use c_layout::user_start;
+use c_layout::user_start::Asked;
+use c_layout::user_start::SettledAnswer;
 
 // One call of the server: takes in a request of any bytes. After a refusal the head and the store are as they were.
 #[no_mangle]
@@ -47,7 +47,7 @@ pub extern "C" fn kozbrax_update_start(
         (now (kept .entry)) (now (call .entry)) (now (request .entry)))
         r (now (call .exit)) (now (request .exit)) ⌝ }
 {
-    using::update_start(servers, own, log, users, kept, call, request)
+    user_start::update_start(servers, own, log, users, kept, call, request)
 }
 
 // Starts a Write of this entry, or resumes the open write of it.
@@ -71,7 +71,7 @@ pub extern "C" fn kozbrax_write_start(
         (now (call .entry)) (now (held .entry)) (now (request .entry)))
         r (now (call .exit)) (now (held .exit)) (now (request .exit)) ⌝ }
 {
-    using::write_start(
+    user_start::write_start(
         servers,
         own,
         log,
@@ -104,7 +104,7 @@ pub extern "C" fn kozbrax_read_start(
         position (now (kept .entry)) (now (call .entry)) (now (request .entry)) (now (entry .entry)))
         r (now (call .exit)) (now (request .exit)) ⌝ }
 {
-    using::read_start(
+    user_start::read_start(
         servers,
         own,
         log,
@@ -133,7 +133,7 @@ pub extern "C" fn kozbrax_give_up_start(
         (now (kept .entry)) (now (path .entry)) (now (call .entry)) (now (request .entry)))
         r (now (kept .exit)) (now (call .exit)) (now (request .exit)) ⌝ }
 {
-    using::give_up_start(servers, own, log, users, kept, path, call, request)
+    user_start::give_up_start(servers, own, log, users, kept, path, call, request)
 }
 
 // Takes in an answer: hands out the call's next request, or ends the call.
@@ -163,7 +163,7 @@ pub extern "C" fn kozbrax_take(
         r (userLent (now (kept .exit)) (now (path .exit)) (now (signature .exit)) (now (call .exit)) (now (hashes .exit))
         (now (held .exit)) (now (request .exit)) (now (entry .exit))) ⌝ }
 {
-    taking::take(
+    user_answer::take(
         servers,
         own,
         log,
@@ -195,5 +195,5 @@ pub extern "C" fn kozbrax_settled(
 ) -> SettledAnswer
     ensures { λ r. ⌜ r ≡ settledAnswer (settings servers own (now (log .entry)) (now (users .entry))) (now (kept .entry)) position ⌝ }
 {
-    using::settled(servers, own, log, users, kept, position)
+    user_start::settled(servers, own, log, users, kept, position)
 }

@@ -1,6 +1,6 @@
 // What is printed.
 use crate::group::Group;
-use c_layout::using::SettledAnswer;
+use c_layout::user_start::SettledAnswer;
 use exchange::user_place;
 use firing::entry;
 use firing_text::kiln;
