@@ -16,7 +16,7 @@ use Rattle.tree.specs.Message.{answerHeader, answer, answerCode, answerBody}
 use Rattle.tree.specs.Setup.{Check, firstCode}
 use Rattle.user_list.specs.Users.{userCount, groupFits, signatureLength}
 use Rattle.tree.proofs.Cases.{and-true, by-eqb, cases-le, cases-eq}
-use Rattle.user_list.proofs.Lists.{Group, group-fits}
+use Rattle.user_list.proofs.Lists.{GroupInRange, group-fits}
 use Rattle.tree.proofs.Labels.{owner-range}
 use Rattle.tree.proofs.Levels.{lg-below, full-low}
 use Rattle.tree.proofs.Messages.{answer-header-length, answer-code, answer-body}
@@ -39,7 +39,7 @@ pub record Fit (c : HonestSetup) (L : ℕ → Item) (w a : ℕ) (k : Kept) : Typ
   pub counted : userCount (publicTo c (c .count)) ≡ c .count
 
 -- its settings are those of a group
-pub group-of : (c : HonestSetup) (a : ℕ) → userSettingsFit (settingsIn c a) ≡ true → Group (c .servers) (publicTo c (c .count))
+pub group-of : (c : HonestSetup) (a : ℕ) → userSettingsFit (settingsIn c a) ≡ true → GroupInRange (c .servers) (publicTo c (c .count))
 unfolding userSettingsFit
 group-of c a e = group-fits (c .servers) (publicTo c (c .count)) (and-true (groupFits (c .servers) (publicTo c (c .count))) _ e .0)
 

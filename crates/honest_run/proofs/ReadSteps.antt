@@ -16,7 +16,7 @@ use Rattle.tree.specs.Message.{answerCode, answerBody}
 use Rattle.tree.specs.Setup.{Check, firstCode, Settings}
 use Rattle.tree.proofs.ByteLaws.{written-length}
 use Rattle.tree.proofs.Cases.{by-eqb, cases-eq, positive}
-use Rattle.user_list.proofs.Lists.{Group}
+use Rattle.user_list.proofs.Lists.{GroupInRange}
 use Rattle.tree.proofs.HonestRead.{TrueReads, true-read-gives-digest}
 use Rattle.user_list.specs.Users.{leastRequest}
 use Rattle.user.specs.declared.call.Kept.{Kept}
@@ -151,7 +151,7 @@ module _ (c : HonestSetup) (L : ℕ → Item) (w g a i : ℕ) (σ : State) (m : 
   lent = collectedBy r m body
 
   -- the setup's group
-  group : Group n (publicTo c (c .count))
+  group : GroupInRange n (publicTo c (c .count))
   group = group-of c a (fit .settings-fit)
 
   -- what was written at i

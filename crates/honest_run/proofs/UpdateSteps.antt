@@ -16,7 +16,7 @@ use Rattle.tree.proofs.ByteLaws.{written-length}
 use Rattle.tree.proofs.Cases.{by-bool, cases-le, cases-eq, positive}
 use Rattle.tree.proofs.Counts.{cover-at-most-39}
 use Rattle.user_list.specs.Users.{leastRequest}
-use Rattle.user_list.proofs.Lists.{Group}
+use Rattle.user_list.proofs.Lists.{GroupInRange}
 use Rattle.user.specs.declared.call.Kept.{Kept}
 use Rattle.user.specs.Asking.{userSettingsFit, keptFits, userFits, userSetupChecks, requestRoom, isAnswer, answerChecks, ofNode, ofStatus}
 use Rattle.user.specs.Outcome.{State, Lent, withHashes, refusal}
@@ -139,7 +139,7 @@ module _ (c : HonestSetup) (L : ℕ → Item) (w a : ℕ) (σ : State) (m : Lent
   over = updateHashes n u body hashes
 
   -- the setup's group
-  group : Group n (publicTo c (c .count))
+  group : GroupInRange n (publicTo c (c .count))
   group = group-of c a (fit .settings-fit)
 
   -- a Status brings a head

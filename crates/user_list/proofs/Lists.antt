@@ -14,12 +14,12 @@ use Rattle.lms.specs.Signature.{signatureSize}
 use Rattle.tree.proofs.Cases.{and-true, by-leb}
 
 -- a group that passes has 2 to 16 servers and at most 64 users
-pub record Group (servers : ℕ) (users : List ℕ) : Type 0 where
+pub record GroupInRange (servers : ℕ) (users : List ℕ) : Type 0 where
   pub two : 2 ≤ servers
   pub sixteen : servers ≤ 16
   pub few : userCount users ≤ 64
 
-pub group-fits : (servers : ℕ) (users : List ℕ) → groupFits servers users ≡ true → Group servers users
+pub group-fits : (servers : ℕ) (users : List ℕ) → groupFits servers users ≡ true → GroupInRange servers users
 unfolding groupFits listFits
 group-fits servers users e =
     let a = and-true (leb 2 servers) _ e in
