@@ -7,14 +7,20 @@ pub fn after(code: u32, servers_code: u32, signed: bool) {
         return;
     }
     print::text(b"  what to do: ");
+    of(code, servers_code, signed);
+    print::text(b"\n");
+}
+
+fn of(code: u32, servers_code: u32, signed: bool) {
     if code != 11 {
         of_user(code);
-    } else if servers_code == 4 {
-        of_taken(signed);
-    } else {
-        of_server(servers_code);
+        return;
     }
-    print::text(b"\n");
+    if servers_code == 4 {
+        of_taken(signed);
+        return;
+    }
+    of_server(servers_code);
 }
 
 // After 4, which says that the position is taken. All servers of a write that is signed had accepted it, so one that follows the rules and
@@ -39,15 +45,19 @@ fn of_taken(signed: bool) {
 fn of_server(code: u32) {
     if code == 8 {
         others();
-    } else if code == 9 {
+        return;
+    }
+    if code == 9 {
         print::text(b"a server's store is full: give it a larger one, and run the command again");
-    } else if code < 4 {
+        return;
+    }
+    if code < 4 {
         print::text(
             b"compare N, the log's name, the list of users and the links with the server's",
         );
-    } else {
-        alarm();
+        return;
     }
+    alarm();
 }
 
 // After a code that a user gives; 10, 13 to 16 and 23 are an alarm.

@@ -2,7 +2,8 @@
 use crate::links;
 use crate::step;
 use crate::step::Step;
-use c_layout::user_start::Asked;
+use c_layout::using::Asked;
+use exchange::user_step;
 use sha256::bytes;
 use state_files::arguments::Settings;
 use state_files::user_file;
@@ -55,7 +56,7 @@ pub fn replace_older(file: i32, memory: &mut [u8]) -> bool {
 fn save_now(file: i32, memory: &mut [u8]) -> bool {
     let mut room = [0u8; 4324];
     let state: &mut [u8] = &mut room;
-    step::load(memory, 0, state);
+    user_step::load(memory, 0, state);
     let saved = user_file::save(file, state);
     bytes::put(memory, 0, state);
     bytes::put(memory, step::SAVED, state);
@@ -72,7 +73,7 @@ fn ask(asked: Asked, memory: &mut [u8], answer: &mut [u8]) -> usize {
 }
 
 // Sends the request that a step handed out, and takes in the answer.
-fn exchange(g: Settings, file: i32, asked: Asked, keys: &[u8], memory: &mut [u8]) -> Asked {
+fn exchange(g: Settings, file: i32, asked: Asked, memory: &mut [u8]) -> Asked {
     if !save(file, memory) {
         return ended(NOT_SAVED, 0);
     }
@@ -86,25 +87,18 @@ fn exchange(g: Settings, file: i32, asked: Asked, keys: &[u8], memory: &mut [u8]
         kind: 0,
         position: 0,
     };
-    step::run(g, taken, keys, bytes::front(answer, n), memory)
+    step::run(g, taken, bytes::front(answer, n), memory)
 }
 
 // A call from its start to its end: the input is the entry of a Write. No call takes more than 128 answers.
-pub fn run(
-    g: Settings,
-    file: i32,
-    start: Step,
-    keys: &[u8],
-    input: &[u8],
-    memory: &mut [u8],
-) -> Asked {
-    let mut asked = step::run(g, start, keys, input, memory);
+pub fn run(g: Settings, file: i32, start: Step, input: &[u8], memory: &mut [u8]) -> Asked {
+    let mut asked = step::run(g, start, input, memory);
     let mut left: u8 = 128;
     while left > 0 {
         if asked.ended == 1 {
             left = 0;
         } else {
-            asked = exchange(g, file, asked, keys, memory);
+            asked = exchange(g, file, asked, memory);
             left -= 1;
         }
     }

@@ -1,12 +1,12 @@
 // The commands, but for `key`.
 use crate::board;
 use crate::call;
-use crate::key;
 use crate::show;
 use crate::step;
 use crate::step::Step;
-use c_layout::user_start;
-use c_layout::user_start::Asked;
+use c_layout::using;
+use c_layout::using::Asked;
+use exchange::user_step;
 use programs::print;
 use sha256::bytes;
 use state_files::arguments;
@@ -14,9 +14,9 @@ use state_files::arguments::Settings;
 use state_files::user_file;
 
 // A user's Write of an entry, or a call of another kind that takes none: an Update, or a give-up, which the state says before it is sent.
-fn call_and_show(g: Settings, file: i32, kind: u8, keys: &[u8], e: &[u8], memory: &mut [u8]) {
+fn call_and_show(g: Settings, file: i32, kind: u8, e: &[u8], memory: &mut [u8]) {
     let start = Step { kind, position: 0 };
-    let asked = call::run(g, file, start, keys, e, memory);
+    let asked = call::run(g, file, start, e, memory);
     show::outcome(asked, memory);
     show::open_write(memory);
 }
@@ -30,13 +30,13 @@ fn note_entry(e: &[u8], memory: &mut [u8]) {
 }
 
 // A user's Write of an entry. A write of the same entry that is open is resumed.
-fn write(g: Settings, file: i32, keys: &[u8], e: &[u8], memory: &mut [u8]) {
+fn write(g: Settings, file: i32, e: &[u8], memory: &mut [u8]) {
     note_entry(e, memory);
-    call_and_show(g, file, 2, keys, e, memory);
+    call_and_show(g, file, 2, e, memory);
 }
 
 // Writes the text of argument 8.
-fn write_text(g: Settings, file: i32, keys: &[u8], memory: &mut [u8]) {
+fn write_text(g: Settings, file: i32, memory: &mut [u8]) {
     let mut room = [0u8; 2048];
     let text: &mut [u8] = &mut room;
     let n = os::arg(8, text);
@@ -47,20 +47,20 @@ fn write_text(g: Settings, file: i32, keys: &[u8], memory: &mut [u8]) {
     let mut room_2 = [0u8; 2049];
     let e: &mut [u8] = &mut room_2;
     bytes::put2(e, 0, &[1], bytes::front(text, n));
-    write(g, file, keys, bytes::front(e, n % 4096 + 1), memory);
+    write(g, file, bytes::front(e, n % 4096 + 1), memory);
 }
 
 // Strikes the position of argument 8.
-fn strike(g: Settings, file: i32, keys: &[u8], memory: &mut [u8]) {
+fn strike(g: Settings, file: i32, memory: &mut [u8]) {
     let p = bytes::be4(arguments::number(8));
     let e = [2, p[0], p[1], p[2], p[3]];
-    write(g, file, keys, &e, memory);
+    write(g, file, &e, memory);
 }
 
 // A user's Read.
-pub fn read(g: Settings, file: i32, position: u32, keys: &[u8], memory: &mut [u8]) -> Asked {
+pub fn read(g: Settings, file: i32, position: u32, memory: &mut [u8]) -> Asked {
     let start = Step { kind: 3, position };
-    call::run(g, file, start, keys, b"", memory)
+    call::run(g, file, start, b"", memory)
 }
 
 // The entry that a Read found.
@@ -69,14 +69,8 @@ pub fn entry_of(asked: Asked, memory: &[u8]) -> &[u8] {
 }
 
 // Reads a position and prints it, or the refusal. Whether it was refused.
-pub fn read_and_show(
-    g: Settings,
-    file: i32,
-    position: u32,
-    keys: &[u8],
-    memory: &mut [u8],
-) -> bool {
-    let asked = read(g, file, position, keys, memory);
+pub fn read_and_show(g: Settings, file: i32, position: u32, memory: &mut [u8]) -> bool {
+    let asked = read(g, file, position, memory);
     if asked.code == 0 {
         show::found(position, asked.author, entry_of(asked, memory));
         return false;
@@ -86,15 +80,15 @@ pub fn read_and_show(
 }
 
 // Whether the own operation of argument 8 is settled.
-fn settled(g: Settings, keys: &[u8], memory: &[u8]) {
+fn settled(g: Settings, memory: &[u8]) {
     let mut kept = [0u8; 46];
-    step::load(memory, user_file::KEPT, &mut kept);
+    user_step::load(memory, user_file::KEPT, &mut kept);
     let log = g.log;
-    let s = user_start::settled(
+    let s = using::settled(
         g.servers,
         g.own,
         &log,
-        key::users(keys),
+        step::users(memory),
         &kept,
         arguments::number(8),
     );
@@ -102,20 +96,35 @@ fn settled(g: Settings, keys: &[u8], memory: &[u8]) {
 }
 
 // Runs the command of argument 7.
-pub fn run(g: Settings, file: i32, keys: &[u8], memory: &mut [u8]) {
+pub fn run(g: Settings, file: i32, memory: &mut [u8]) {
     if arguments::is(7, b"update") {
-        call_and_show(g, file, 1, keys, b"", memory);
-    } else if arguments::is(7, b"give-up") {
-        call_and_show(g, file, 4, keys, b"", memory);
-    } else if arguments::is(7, b"write") {
-        write_text(g, file, keys, memory);
-    } else if arguments::is(7, b"strike") {
-        strike(g, file, keys, memory);
-    } else if arguments::is(7, b"read") {
-        read_and_show(g, file, arguments::number(8), keys, memory);
-    } else if arguments::is(7, b"board") {
-        board::draw(g, file, keys, memory);
-    } else {
-        settled(g, keys, memory);
+        call_and_show(g, file, 1, b"", memory);
+        return;
     }
+    if arguments::is(7, b"give-up") {
+        call_and_show(g, file, 4, b"", memory);
+        return;
+    }
+    if arguments::is(7, b"write") {
+        write_text(g, file, memory);
+        return;
+    }
+    run_other(g, file, memory);
+}
+
+// Runs one of the commands that are left.
+fn run_other(g: Settings, file: i32, memory: &mut [u8]) {
+    if arguments::is(7, b"strike") {
+        strike(g, file, memory);
+        return;
+    }
+    if arguments::is(7, b"read") {
+        read_and_show(g, file, arguments::number(8), memory);
+        return;
+    }
+    if arguments::is(7, b"board") {
+        board::draw(g, file, memory);
+        return;
+    }
+    settled(g, memory);
 }

@@ -1,5 +1,5 @@
 // A user's key, in the file `key` of its folder: identifier (16 bytes), seed (32), second secret (32), key tree (65,504) and a check (32).
-// The second secret is for randomizers. The public key is in the file `public`. In memory the public keys of all users follow.
+// The second secret is for randomizers. The public key is in the file `public`.
 ghost use mathlib.Core.Path.{_≡_};
 ghost use lib.ListN.{length};
 use sha256::bytes;
@@ -14,12 +14,10 @@ pub fn memory() -> [u8; 65616]
     [0; 65616]
 }
 
-// The memory of a key and of up to 65 users' public keys, zero.
-pub fn memory_with_users() -> [u8; 69256]
-    ensures { λ r. ⌜ 69256 ≡ length r ⌝ }
-{
-    [0; 69256]
-}
+// Where the tree stands, and how many bytes it has.
+pub const TREE: usize = 80;
+
+pub const TREE_SIZE: u32 = 65504;
 
 pub fn identifier(key: &[u8]) -> [u8; 16] {
     let mut id = [0u8; 16];
@@ -33,13 +31,8 @@ pub fn seed(key: &[u8]) -> [u8; 32] {
     seed
 }
 
-pub fn tree(key: &[u8]) -> &[u8] {
-    bytes::front(bytes::from(key, 80), 65504)
-}
-
-// The public keys of all users.
-pub fn users(key: &[u8]) -> &[u8] {
-    bytes::from(key, 65616)
+fn tree(key: &[u8]) -> &[u8] {
+    bytes::front(bytes::from(key, TREE), TREE_SIZE as usize)
 }
 
 // The randomizer of a signature: a hash of the second secret, the signature number and the entry. So a write that is resumed from the state
@@ -70,7 +63,7 @@ fn fill(key: &mut [u8]) -> bool {
     let secret = seed(key);
     let mut tree = [0u8; 65504];
     lms::generate(6, 3, secret, id, &mut tree);
-    bytes::put(key, 80, &tree);
+    bytes::put(key, TREE, &tree);
     slot::seal(key, b"");
     true
 }
@@ -96,13 +89,22 @@ pub fn make(folder: &[u8]) -> bool {
         os::fail(b"key: no random bytes");
         return false;
     }
-    let made = save_state(folder)
-        && save_public(folder, key)
-        && file::replace(folder, b"key.new", b"key", key);
-    if !made {
-        os::fail(b"key: the folder cannot be written");
+    if save(folder, key) {
+        return true;
     }
-    made
+    os::fail(b"key: the folder cannot be written");
+    false
+}
+
+// Writes the state, the public key and the key, and answers whether all are on their device.
+fn save(folder: &[u8], key: &[u8]) -> bool {
+    if !save_state(folder) {
+        return false;
+    }
+    if !save_public(folder, key) {
+        return false;
+    }
+    file::replace(folder, b"key.new", b"key", key)
 }
 
 // Writes state 1 of a user: all zero, and of no log yet.

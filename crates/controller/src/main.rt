@@ -22,10 +22,10 @@ use state_files::setup;
 use state_files::user_file;
 
 // The user's memory, zero. The `ensures` gives only the length, so that no proof computes with the list.
-fn memory() -> [u8; 14850]
-    ensures { λ r. ⌜ 14850 ≡ length r ⌝ }
+fn memory() -> [u8; 84110]
+    ensures { λ r. ⌜ 84110 ≡ length r ⌝ }
 {
-    [0; 14850]
+    [0; 84110]
 }
 
 // Whether argument 7 is a command that takes argument 8, or one that takes none.
@@ -119,24 +119,30 @@ fn run_state(g: Settings, fd: i32, users: &[u8], key: &[u8]) {
     if !load(g, fd, users, m) {
         return;
     }
-    let mut room = key::memory_with_users();
-    let keys: &mut [u8] = &mut room;
-    bytes::put2(keys, 0, key, users);
-    command::run(g, fd, bytes::front(keys, 65616 + users.len()), m);
+    step::lay_keys(key, users, m);
+    command::run(g, fd, m);
 }
 
-// Loads the state that counts. Whether it is there and of this log.
-fn load(g: Settings, fd: i32, users: &[u8], memory: &mut [u8]) -> bool {
+// Loads the state that counts. Whether it is there.
+fn load_state(fd: i32, memory: &mut [u8]) -> bool {
     let mut room = [0u8; 4324];
     let state: &mut [u8] = &mut room;
     if !user_file::load(fd, state) {
         report::line(b"the state is not whole: the key must not sign any more");
         return false;
     }
-    let name = g.log;
-    let mark = setup::hash((g.servers % 256) as u8, (g.own % 256) as u8, name, users);
     bytes::put(memory, 0, state);
     bytes::put(memory, step::SAVED, state);
+    true
+}
+
+// Loads the state that counts. Whether it is there and of this log.
+fn load(g: Settings, fd: i32, users: &[u8], memory: &mut [u8]) -> bool {
+    if !load_state(fd, memory) {
+        return false;
+    }
+    let name = g.log;
+    let mark = setup::hash((g.servers % 256) as u8, (g.own % 256) as u8, name, users);
     if !bind(mark, memory) {
         return false;
     }

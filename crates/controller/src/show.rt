@@ -13,28 +13,34 @@ pub fn version(memory: &[u8]) -> u32 {
     bytes::u32_at(memory, user_file::KEPT)
 }
 
-// What a call gave: its code and the server's, the version and the next signature number; and for a refusal what it says and what to do.
-pub fn outcome(asked: Asked, memory: &[u8]) {
-    let code = asked.code;
-    if code == call::NO_ANSWER {
+// The code that a call gave, and the server's.
+fn code(asked: Asked) {
+    if asked.code == call::NO_ANSWER {
         print::number(b"no answer from server ", asked.server as usize);
-    } else if code == call::NOT_SAVED {
-        print::text(b"the state was not saved");
-    } else {
-        print::number(b"code ", code as usize);
+        return;
     }
-    if code == 11 {
+    if asked.code == call::NOT_SAVED {
+        print::text(b"the state was not saved");
+        return;
+    }
+    print::number(b"code ", asked.code as usize);
+    if asked.code == 11 {
         print::number(b", the server's ", asked.refusal as usize);
     }
+}
+
+// What a call gave: its code and the server's, the version and the next signature number; and for a refusal what it says and what to do.
+pub fn outcome(asked: Asked, memory: &[u8]) {
+    code(asked);
     let number = bytes::u32_at(memory, user_file::KEPT + 36);
     print::filled(
         b", version #, next signature number #\n",
         &[version(memory), number],
     );
-    if code < 256 {
-        sentence::refusal((code % 256) as u8, (asked.refusal % 256) as u8);
+    if asked.code < 256 {
+        sentence::refusal((asked.code % 256) as u8, (asked.refusal % 256) as u8);
     }
-    advice::after(code, asked.refusal, is_signed(memory));
+    advice::after(asked.code, asked.refusal, is_signed(memory));
 }
 
 // Whether a write is open that is signed: its Commit was handed out.
@@ -44,16 +50,22 @@ fn is_signed(memory: &[u8]) -> bool {
 
 // What an entry holds: its text, what it strikes, or that it is a schedule.
 pub fn contents(e: &[u8]) {
+    held(e);
+    print::text(b"\n");
+}
+
+fn held(e: &[u8]) {
     let kind = bytes::byte_at(e, 0);
     if kind == 2 {
         print::number(b"strikes ", entry::target(e) as usize);
-    } else if kind == 3 {
+        return;
+    }
+    if kind == 3 {
         let segments = bytes::byte_at(e, 1);
         print::filled(b"a firing schedule of # segments", &[segments as u32]);
-    } else {
-        print::text(bytes::from(e, 1));
+        return;
     }
-    print::text(b"\n");
+    print::text(bytes::from(e, 1));
 }
 
 // An entry that was read.
@@ -77,11 +89,13 @@ pub fn open_write(memory: &[u8]) {
 fn ways_to_end(memory: &[u8]) {
     if bytes::byte_at(memory, user_file::KEPT + 44) == 1 {
         print::text(b"  its give-up has begun: run `give-up` until it is done\n");
-    } else if bytes::byte_at(memory, user_file::KEPT + 43) == 1 {
+        return;
+    }
+    if bytes::byte_at(memory, user_file::KEPT + 43) == 1 {
         print::text(
             b"  it can only be resumed: run its command again, before another user writes\n",
         );
-    } else {
-        print::text(b"  it can be resumed by its command, or given up by `give-up`\n");
+        return;
     }
+    print::text(b"  it can be resumed by its command, or given up by `give-up`\n");
 }

@@ -1,11 +1,21 @@
--- A user's place, one slice: what is kept at 0, and where the rest of it begins.
-use mathlib.Core.Bool.{Bool}
-use mathlib.Core.List.{List}
-use Prim.Native.Nat.{ℕ, _+_}
+-- A user's place: what is kept at 0, where the rest of it begins, and what a step leaves there.
+use mathlib.Core.Bool.{Bool, cond}
+use mathlib.Core.List.{List, _∷_, _++_}
+use Prim.Native.Nat.{ℕ, _+_, _%_}
 use lib.Dec.{eqb}
-use lib.ListN.{length, take, drop, getD}
+use lib.ListN.{take, drop, getD, replicate}
 use Rattle.lines.specs.Memory.{zeros}
-use Rattle.sha256.specs.Bytes.{numberAt, written}
+use Rattle.sha256.specs.Bytes.{be, numberAt, written}
+use Rattle.tree.specs.Setup.{settings}
+use Rattle.programs.specs.Key.{placeAt, treeAt}
+use Rattle.c_layout.specs.declared.using.Asked.{Asked}
+use Rattle.c_layout.specs.declared.using.SettledAnswer.{SettledAnswer}
+use Rattle.c_layout.specs.User.{settledAnswer}
+use Rattle.exchange.specs.declared.user_place.Settings.{Settings}
+use Rattle.exchange.specs.declared.user_step.Step.{Step}
+use Rattle.exchange.specs.declared.user_step.Layout.{Layout}
+use Rattle.exchange.specs.LogName.{logName}
+use Rattle.exchange.specs.UserStep.{loaded, allLaid, stepMade}
 
 -- The call, the last step, and in it the length of the entry and the server that was asked.
 abbrev pub callAt : ℕ
@@ -42,10 +52,6 @@ requestAt = 5608
 abbrev pub entryAt : ℕ
 entryAt = 8174
 
--- d filled with the bytes of a place from `at` on; where they are too few, d stays as it was.
-unfoldable pub loaded : List ℕ → ℕ → List ℕ → List ℕ
-loaded place at d = written d 0 (take (length d) (drop at place))
-
 -- The request that was handed out last: its length stands behind the server's number.
 unfoldable pub requestOf : List ℕ → List ℕ
 requestOf place = take (numberAt 2 place (askedAt + 1)) (drop requestAt place)
@@ -60,3 +66,69 @@ hasEnded place = eqb (getD place endedAt 0) 1
 -- The place with all cleared but what is kept, the path and the signature.
 unfoldable pub forgotten : List ℕ → List ℕ
 forgotten place = written (written place callAt (zeros 108)) hashesAt (zeros 5864)
+
+-- The kind of the start that came last, where a step of a kind comes now.
+unfoldable pub lastStart : ℕ → List ℕ → ℕ
+lastStart kind place = cond (eqb kind 0) (getD place stepAt 0) kind
+
+-- The last step: the start, the code and the server's, whether the call has ended, the author and the length of the entry.
+unfoldable pub stepBytes : ℕ → Asked → List ℕ
+stepBytes last a = last ∷ a .code % 256 ∷ a .refusal % 256 ∷ a .ended % 256 ∷ (be 2 (a .author) ++ be 2 (a .entry))
+
+-- It is laid into the place of a user. A call that has ended leaves the server and the length of its last request, which stand behind it.
+unfoldable pub stepLaid : ℕ → Asked → ℕ → List ℕ → List ℕ
+stepLaid kind a user world =
+    let at = placeAt user in
+    let laid = written world (at + stepAt) (stepBytes (lastStart kind (drop at world)) a) in
+    cond (eqb (a .ended % 256) 0) (written laid (at + askedAt) (a .server % 256 ∷ be 2 (a .length))) laid
+
+-- Where the bytes of a user stand in a slice with the users' places and, from `keys` on, their keys.
+unfoldable pub placeLayout : ℕ → ℕ → ℕ → Layout
+placeLayout user keys name =
+    let at = placeAt user in
+    record {
+      kept = at;
+      path = at + pathAt;
+      signature = at + signatureAt;
+      call = at + callAt;
+      hashes = at + hashesAt;
+      held = at + heldAt;
+      request = at + requestAt;
+      entry = at + entryAt;
+      users = keys;
+      tree = keys + treeAt name;
+    }
+
+-- What a step is made with: the own key has the own number as one byte, 16 times as its identifier and 32 times as its seed.
+unfoldable pub madeWith : Settings → Step
+madeWith s =
+    let name = s .own % 256 in
+    record {
+      servers = s .servers;
+      own = s .own;
+      log = logName;
+      id = replicate 16 name;
+      seed = replicate 32 name;
+      randomizer = replicate 32 (s .number % 256);
+      kind = s .kind;
+      position = s .number;
+      users = s .users;
+      tree = s .tree;
+      request = s .request;
+      entry = s .entry;
+    }
+
+-- The slice after a step.
+unfoldable pub stepOn : Settings → ℕ → ℕ → List ℕ → List ℕ → List ℕ
+stepOn s user keys input world =
+    let at = placeLayout user keys (s .own % 256) in
+    let o = stepMade (madeWith s) at input world in
+    stepLaid (s .kind) (o .result) user (allLaid at (o .lent) world)
+
+-- What is kept, and whether the own operation at the settings' number is settled.
+unfoldable pub keptIn : List ℕ → List ℕ
+keptIn place = loaded place 0 (zeros 46)
+
+unfoldable pub settledOn : Settings → List ℕ → List ℕ → SettledAnswer
+settledOn s keys place =
+    settledAnswer (settings (s .servers) (s .own) logName (take (s .users) keys)) (keptIn place) (s .number)

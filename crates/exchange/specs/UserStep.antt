@@ -1,164 +1,100 @@
--- A user's step on its place: the buffers of the place are lent to a call of `c_layout`, and laid as it leaves them.
+-- A user's step: the buffers of a slice are lent to a call of `c_layout`, and laid as it leaves them.
+use mathlib.Core.Path.{_≡_}
 use mathlib.Core.Bool.{cond}
-use mathlib.Core.List.{List, _∷_, _++_}
-use Prim.Native.Nat.{ℕ, _%_, min}
+use mathlib.Core.List.{List}
+use Prim.Native.Nat.{ℕ, min}
 use lib.Dec.{eqb}
-use lib.ListN.{take, drop, getD, replicate}
+use lib.ListN.{length, take, drop}
 use Rattle.lines.specs.Memory.{zeros}
-use Rattle.sha256.specs.Bytes.{be, written}
-use Rattle.tree.specs.Setup.{settings}
-use Rattle.tree.specs.Setup.{Settings as Group}
-use Rattle.programs.specs.Key.{treeAt}
+use Rattle.sha256.specs.Bytes.{written}
+use Rattle.tree.specs.Setup.{Settings, settings}
 use Rattle.user.specs.Outcome.{keyOf}
-use Rattle.c_layout.specs.declared.user_start.Asked.{Asked}
-use Rattle.c_layout.specs.declared.user_start.SettledAnswer.{SettledAnswer}
-use Rattle.c_layout.specs.User.{UserLent, userLent, updateBegun, readBegun, writeBegun, giveUpBegun, userAnswered, settledAnswer}
-use Rattle.exchange.specs.declared.buffers.Buffers.{Buffers}
-use Rattle.exchange.specs.declared.user_place.Settings.{Settings}
-use Rattle.exchange.specs.declared.user_step.Outcome.{Outcome}
-use Rattle.exchange.specs.UserPlace.{loaded, callAt, stepAt, askedAt, pathAt, signatureAt, hashesAt, heldAt, requestAt, entryAt}
-use Rattle.exchange.specs.LogName.{logName}
+use Rattle.c_layout.specs.declared.using.Asked.{Asked}
+use Rattle.c_layout.specs.User.{UserLent, userLent, UserOutcome, updateBegun, readBegun, writeBegun, giveUpBegun, userAnswered}
+use Rattle.exchange.specs.declared.user_step.Step.{Step}
+use Rattle.exchange.specs.declared.user_step.Layout.{Layout}
 
--- What is kept, and all buffers of a place. Where a place is too short for one, it is zeros.
-unfoldable pub keptIn : List ℕ → List ℕ
-keptIn place = loaded place 0 (zeros 46)
+-- d filled with the bytes of a slice from `at` on; where they are too few, d stays as it was.
+unfoldable pub loaded : List ℕ → ℕ → List ℕ → List ℕ
+loaded world at d = written d 0 (take (length d) (drop at world))
 
-unfoldable pub buffersIn : List ℕ → Buffers
-buffersIn place =
-    record {
-      kept = keptIn place;
-      path = loaded place pathAt (zeros 672);
-      signature = loaded place signatureAt (zeros 2508);
-      call = loaded place callAt (zeros 82);
-      hashes = loaded place hashesAt (zeros 1248);
-      held = loaded place heldAt (zeros 1026);
-      request = loaded place requestAt (zeros 2566);
-      entry = loaded place entryAt (zeros 1024);
-    }
+-- The user list and the key tree that are lent.
+unfoldable pub usersIn : Step → Layout → List ℕ → List ℕ
+usersIn s at world = take (s .users) (drop (at .users) world)
 
--- The place with the buffers: what is kept, the call, the path and the signature; then the others.
-unfoldable pub stateLaid : Buffers → List ℕ → List ℕ
-stateLaid b place = written (written place 0 (b .kept ++ b .call)) pathAt (b .path ++ b .signature)
-
-unfoldable pub memoryLaid : Buffers → List ℕ → List ℕ
-memoryLaid b place = written (written (written place hashesAt (b .hashes ++ b .held)) requestAt (b .request)) entryAt (b .entry)
+unfoldable pub treeIn : Step → Layout → List ℕ → List ℕ
+treeIn s at world = take (s .tree) (drop (at .tree) world)
 
 -- N, the own number, the log's name and the user list that is lent.
-abbrev pub groupOf : Settings → List ℕ → Group
-groupOf s users = settings (s .servers) (s .own) logName users
+abbrev pub groupOf : Step → List ℕ → Settings
+groupOf s users = settings (s .servers) (s .own) (s .log) users
 
--- The part of the own key tree that is lent.
-unfoldable pub treeLent : Settings → List ℕ → List ℕ
-treeLent s keys = take (s .tree) (drop (treeAt (s .own % 256)) keys)
+-- What a start leaves: the call and the request may change, and what is kept or held as is said of it.
+unfoldable pub begun : UserLent → UserOutcome → List ℕ → List ℕ → UserOutcome
+begun m o kept held =
+    let lent = userLent kept (m .path) (m .signature) (o .lent .call) (m .hashes) held (o .lent .request) (m .entry) in
+    record { result = o .result; lent = lent }
 
--- How many bytes of the request buffer are lent, and of the entry buffer.
-unfoldable pub room : Settings → ℕ
-room s = min (s .request) 2566
+-- A give-up is kept once it has begun; a Write's entry is held.
+unfoldable pub giveUpLent : Step → List ℕ → UserLent → UserOutcome
+giveUpLent s users m =
+    let o = giveUpBegun (groupOf s users) (m .kept) (m .path) (m .call) (m .request) in
+    begun m o (o .lent .kept) (m .held)
 
-unfoldable pub size : Settings → ℕ
-size s = min (s .entry) 1024
+unfoldable pub writeLent : Step → List ℕ → List ℕ → List ℕ → UserLent → UserOutcome
+writeLent s users tree entry m =
+    let o = writeBegun (groupOf s users) tree entry (s .randomizer) (m .kept) (m .path) (m .call) (m .held) (m .request) in
+    begun m o (m .kept) (o .lent .held)
 
--- The buffers of what a call was lent.
-unfoldable pub buffersOf : UserLent → Buffers
-buffersOf l =
-    record {
-      kept = l .kept;
-      path = l .path;
-      signature = l .signature;
-      call = l .call;
-      hashes = l .hashes;
-      held = l .held;
-      request = l .request;
-      entry = l .entry;
-    }
+-- Kind 1 starts an Update, 3 a Read, 4 a give-up, any other a Write.
+unfoldable pub startLent : Step → List ℕ → List ℕ → List ℕ → UserLent → UserOutcome
+startLent s users tree input m =
+    let g = groupOf s users in
+    cond (eqb (s .kind) 1) (begun m (updateBegun g (m .kept) (m .call) (m .request)) (m .kept) (m .held))
+    (cond (eqb (s .kind) 3) (begun m (readBegun g (s .position) (m .kept) (m .call) (m .request) (m .entry)) (m .kept) (m .held))
+    (cond (eqb (s .kind) 4) (giveUpLent s users m) (writeLent s users tree input m)))
 
--- The buffers after a start: the call, the entry that it holds and the request may change.
-unfoldable pub callStarted : Asked → Buffers → List ℕ → List ℕ → List ℕ → Outcome
-callStarted asked b call held request =
-    let after = userLent (b .kept) (b .path) (b .signature) call (b .hashes) held request (b .entry) in
-    record { asked = asked; buffers = buffersOf after }
+-- The step on what is lent: kind 0 takes in an answer.
+unfoldable pub stepLent : Step → List ℕ → List ℕ → List ℕ → UserLent → UserOutcome
+stepLent s users tree input m =
+    cond (eqb (s .kind) 0) (userAnswered (groupOf s users) m (keyOf (s .id) (s .seed) tree) input) (startLent s users tree input m)
 
--- The start of an Update, of a Read at the settings' number, and of a Write, whose randomizer is the number 32 times. Of the request buffer
--- the first n bytes are lent.
-unfoldable pub updateMade : Settings → List ℕ → ℕ → Buffers → Outcome
-updateMade s users n b =
-    let o = updateBegun (groupOf s users) (b .kept) (b .call) (take n (b .request)) in
-    callStarted (o .result) b (o .lent .call) (b .held) (o .lent .request ++ drop n (b .request))
+-- What is lent: beside what is kept, the path and the signature, the call and its memory as a slice has them. Where it is too short for
+-- one, that is zeros.
+unfoldable pub lentIn : Step → Layout → List ℕ → List ℕ → List ℕ → List ℕ → UserLent
+lentIn s at kept path signature world =
+    let call = loaded world (at .call) (zeros 82) in
+    let hashes = loaded world (at .hashes) (zeros 1248) in
+    let held = loaded world (at .held) (zeros 1026) in
+    let request = loaded world (at .request) (zeros (min (s .request) 2566)) in
+    let entry = loaded world (at .entry) (zeros (min (s .entry) 1024)) in
+    userLent kept path signature call hashes held request entry
 
-unfoldable pub readMade : Settings → List ℕ → ℕ → Buffers → Outcome
-readMade s users n b =
-    let o = readBegun (groupOf s users) (s .number) (b .kept) (b .call) (take n (b .request)) (take (s .entry) (b .entry)) in
-    callStarted (o .result) b (o .lent .call) (b .held) (o .lent .request ++ drop n (b .request))
+-- The slice with three parts laid, each from its place on; with the call and its memory, and with all.
+unfoldable pub laid3 : ℕ → List ℕ → ℕ → List ℕ → ℕ → List ℕ → List ℕ → List ℕ
+laid3 a x b y c z world = written (written (written world a x) b y) c z
 
-unfoldable pub writeMade : Settings → List ℕ → List ℕ → ℕ → List ℕ → Buffers → Outcome
-writeMade s users tree n entry b =
-    let randomizer = replicate 32 (s .number % 256) in
-    let o = writeBegun (groupOf s users) tree entry randomizer (b .kept) (b .path) (b .call) (b .held) (take n (b .request)) in
-    callStarted (o .result) b (o .lent .call) (o .lent .held) (o .lent .request ++ drop n (b .request))
+unfoldable pub callLaid : Layout → UserLent → List ℕ → List ℕ
+callLaid at l world =
+    let called = laid3 (at .call) (l .call) (at .hashes) (l .hashes) (at .held) (l .held) world in
+    written (written called (at .request) (l .request)) (at .entry) (l .entry)
 
--- The buffers with another kept state.
-unfoldable pub keptWith : List ℕ → Buffers → Buffers
-keptWith kept b =
-    buffersOf (userLent kept (b .path) (b .signature) (b .call) (b .hashes) (b .held) (b .request) (b .entry))
+unfoldable pub allLaid : Layout → UserLent → List ℕ → List ℕ
+allLaid at l world =
+    laid3 (at .kept) (l .kept) (at .path) (l .path) (at .signature) (l .signature) (callLaid at l world)
 
--- The start of a give-up, which is kept once it has begun.
-unfoldable pub giveUpMade : Settings → List ℕ → ℕ → Buffers → Outcome
-giveUpMade s users n b =
-    let o = giveUpBegun (groupOf s users) (b .kept) (b .path) (b .call) (take n (b .request)) in
-    callStarted (o .result) (keptWith (o .lent .kept) b) (o .lent .call) (b .held) (o .lent .request ++ drop n (b .request))
+-- What is handed back and what is in what is kept, the path, the signature and the slice after the call's part of a step.
+abbrev pub CallYields : Layout → List ℕ → UserOutcome → Asked → List ℕ → List ℕ → List ℕ → List ℕ → Type 0
+CallYields at world o r kept path signature after =
+    (r ≡ o .result) × ((kept ≡ o .lent .kept) × ((path ≡ o .lent .path) × ((signature ≡ o .lent .signature) × (after ≡ callLaid at (o .lent) world))))
 
--- What an answer is taken in with: n bytes of the request buffer and k of the entry buffer.
-unfoldable pub lentBy : ℕ → ℕ → Buffers → UserLent
-lentBy n k b =
-    userLent (b .kept) (b .path) (b .signature) (b .call) (b .hashes) (b .held) (take n (b .request)) (take k (b .entry))
+-- A step: what the call of `c_layout` leaves, laid into the slice.
+unfoldable pub stepMade : Step → Layout → List ℕ → List ℕ → UserOutcome
+stepMade s at input world =
+    let kept = loaded world (at .kept) (zeros 46) in
+    let path = loaded world (at .path) (zeros 672) in
+    let signature = loaded world (at .signature) (zeros 2508) in
+    stepLent s (usersIn s at world) (treeIn s at world) input (lentIn s at kept path signature world)
 
--- What it leaves.
-unfoldable pub answerTaken : ℕ → ℕ → Buffers → Asked → UserLent → Outcome
-answerTaken n k b asked l =
-    let request = l .request ++ drop n (b .request) in
-    let entry = l .entry ++ drop k (b .entry) in
-    let after = userLent (l .kept) (l .path) (l .signature) (l .call) (l .hashes) (l .held) request entry in
-    record { asked = asked; buffers = buffersOf after }
-
--- An answer that is taken in. The own key has the own number as one byte, 16 times as its identifier and 32 times as its seed.
-unfoldable pub answerMade : Settings → List ℕ → List ℕ → ℕ → ℕ → List ℕ → Buffers → Outcome
-answerMade s users tree n k answer b =
-    let name = s .own % 256 in
-    let key = keyOf (replicate 16 name) (replicate 32 name) tree in
-    let o = userAnswered (groupOf s users) (lentBy n k b) key answer in
-    answerTaken n k b (o .result) (o .lent)
-
--- Kind 0 takes in an answer; 1 starts an Update, 3 a Read, 4 a give-up, any other a Write.
-unfoldable pub stepMade : Settings → List ℕ → List ℕ → Buffers → Outcome
-stepMade s keys input b =
-    let users = take (s .users) keys in
-    let tree = treeLent s keys in
-    let n = room s in
-    cond (eqb (s .kind) 0) (answerMade s users tree n (size s) input b)
-    (cond (eqb (s .kind) 1) (updateMade s users n b)
-    (cond (eqb (s .kind) 3) (readMade s users n b)
-    (cond (eqb (s .kind) 4) (giveUpMade s users n b) (writeMade s users tree n input b))))
-
--- The kind of the start that came last, where a step of a kind comes now.
-unfoldable pub lastStart : ℕ → List ℕ → ℕ
-lastStart kind place = cond (eqb kind 0) (getD place stepAt 0) kind
-
--- The last step: the start, the code and the server's, whether the call has ended, the author and the length of the entry.
-unfoldable pub stepBytes : ℕ → Asked → List ℕ
-stepBytes last a = last ∷ a .code % 256 ∷ a .refusal % 256 ∷ a .ended % 256 ∷ (be 2 (a .author) ++ be 2 (a .entry))
-
--- The place with it. A call that has ended leaves the server and the length of its last request, which stand behind it.
-unfoldable pub stepLaid : ℕ → Asked → List ℕ → List ℕ
-stepLaid kind a place =
-    let laid = written place stepAt (stepBytes (lastStart kind place) a) in
-    cond (eqb (a .ended % 256) 0) (written laid askedAt (a .server % 256 ∷ be 2 (a .length))) laid
-
--- The place after a step.
-unfoldable pub stepOn : Settings → List ℕ → List ℕ → List ℕ → List ℕ
-stepOn s keys input place =
-    let o = stepMade s keys input (buffersIn place) in
-    stepLaid (s .kind) (o .asked) (memoryLaid (o .buffers) (stateLaid (o .buffers) place))
-
--- Whether the own operation at the settings' number is settled.
-unfoldable pub settledOn : Settings → List ℕ → List ℕ → SettledAnswer
-settledOn s keys place = settledAnswer (groupOf s (take (s .users) keys)) (keptIn place) (s .number)
+abbrev pub StepYields : Layout → List ℕ → UserOutcome → Asked → List ℕ → Type 0
+StepYields at world o r after = (r ≡ o .result) × (after ≡ allLaid at (o .lent) world)

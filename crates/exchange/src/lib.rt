@@ -1,5 +1,6 @@
-// For programs: a user and a server of a log, each in one slice of bytes; steps of the user and calls of the server, over `c_layout`.
-mod buffers;
+// For programs: steps of a user and calls of a server of a log, over `c_layout`, each on its place in a slice; and whole runs of users and
+// servers in one slice.
+pub mod run;
 pub mod server_place;
 pub mod user_place;
-mod user_step;
+pub mod user_step;

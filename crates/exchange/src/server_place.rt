@@ -9,6 +9,9 @@ use c_layout::serving::Served;
 use programs::key;
 use sha256::bytes;
 
+// How many bytes the head has, and where its parts stand.
+pub const HEAD: usize = 79;
+
 pub const LEVEL: usize = 4;
 
 pub const AUTHOR: usize = 5;
@@ -30,7 +33,7 @@ fn head_of(place: &[u8]) -> [u8; 79]
     ensures { λ r. ⌜ r ≡ headIn (now (place .entry)) ⌝ }
 {
     let mut head = [0u8; 79];
-    bytes::put(&mut head, 0, bytes::front(place, 79));
+    bytes::put(&mut head, 0, bytes::front(place, HEAD));
     head
 }
 

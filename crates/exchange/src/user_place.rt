@@ -1,15 +1,17 @@
 // A user's place of 9,198 bytes: what is kept in the first 46 and the call that goes on in the next 82, as `c_layout` has them; the last
-// step; then the buffers that are lent.
+// step; then the buffers that are lent. It stands in a slice with the places of other users (`programs::place`) and the users' keys.
 ghost use mathlib.Core.Path.{_≡_};
-ghost use Rattle.exchange.specs.UserPlace.{loaded, requestOf, entryOf, hasEnded, forgotten};
-ghost use Rattle.exchange.specs.UserStep.{lastStart, stepBytes, stepLaid, stepOn, settledOn};
 ghost use Rattle.lines.specs.Memory.{zeros};
-use crate::buffers;
+ghost use Rattle.exchange.specs.UserPlace.{requestOf, entryOf, hasEnded, forgotten, keptIn, placeLayout, madeWith, lastStart};
+ghost use Rattle.exchange.specs.UserPlace.{stepBytes, stepLaid, stepOn, settledOn};
 use crate::user_step;
-use c_layout::user_start;
-use c_layout::user_start::Asked;
-use c_layout::user_start::SettledAnswer;
+use crate::user_step::Layout;
+use crate::user_step::Step;
+use c_layout::using;
+use c_layout::using::Asked;
+use c_layout::using::SettledAnswer;
 use programs::key;
+use programs::place;
 use sha256::bytes;
 
 // What is kept, from the place's first byte on: version, digest, number, and whether a write is open and signed; of an open write the
@@ -73,13 +75,6 @@ pub struct Settings {
     pub tree: u32,
     pub request: u32,
     pub entry: u32,
-}
-
-// Fills d with the bytes of a place from `at` on.
-pub fn load(place: &[u8], at: usize, d: &mut [u8])
-    ensures { λ _. ⌜ now (d .exit) ≡ loaded (now (place .entry)) at (now (d .entry)) ⌝ }
-{
-    bytes::put(d, 0, bytes::front(bytes::from(place, at), d.len()));
 }
 
 // The request that was handed out last.
@@ -159,26 +154,76 @@ fn step_bytes(last: u8, asked: Asked) -> [u8; 8]
     ]
 }
 
-// Lays what a step of a kind gave. A call that has ended leaves the server and the length of its last request.
-fn keep_step(kind: u8, asked: Asked, place: &mut [u8])
-    ensures { λ _. ⌜ now (place .exit) ≡ stepLaid kind asked (now (place .entry)) ⌝ }
+// Lays what a step of a kind gave into the place of a user. A call that has ended leaves the server and the length of its last request.
+fn keep_step(kind: u8, asked: Asked, user: u8, world: &mut [u8])
+    ensures { λ _. ⌜ now (world .exit) ≡ stepLaid kind asked user (now (world .entry)) ⌝ }
 {
-    let given = step_bytes(last_start(kind, place), asked);
-    bytes::put(place, KIND, &given);
+    let at = place::at(user);
+    let given = step_bytes(last_start(kind, place::of(user, world)), asked);
+    bytes::put(world, at + KIND, &given);
     if asked.ended % 256 == 0 {
         let length = bytes::be2((asked.length % 65536) as u16);
-        bytes::put2(place, SERVER, &[(asked.server % 256) as u8], &length);
+        bytes::put2(world, at + SERVER, &[(asked.server % 256) as u8], &length);
     }
 }
 
-// A step on a place. The input is the entry of a Write, or the answer that is taken in.
-pub fn step(s: Settings, keys: &[u8], input: &[u8], place: &mut [u8])
-    ensures { λ _. ⌜ now (place .exit) ≡ stepOn s (now (keys .entry)) (now (input .entry)) (now (place .entry)) ⌝ }
+// Where the bytes of a user stand whose key has a name, in a slice with the keys from a place on.
+fn layout(user: u8, keys: u32, name: u8) -> Layout
+    ensures { λ r. ⌜ r ≡ placeLayout user keys name ⌝ }
 {
-    let outcome = user_step::made(s, keys, input, buffers::of_place(place));
-    let after = outcome.buffers;
-    buffers::lay(after, place);
-    keep_step(s.kind, outcome.asked, place);
+    let at = place::at(user);
+    Layout {
+        kept: at,
+        path: at + PATH,
+        signature: at + SIGNATURE,
+        call: at + CALL,
+        hashes: at + HASHES,
+        held: at + HELD,
+        request: at + REQUEST,
+        entry: at + ENTRY,
+        users: keys as usize,
+        tree: keys as usize + key::tree_at(name),
+    }
+}
+
+// What a step is made with: the log of the programs, and a key whose identifier and seed repeat the own number.
+fn made_with(s: Settings) -> Step
+    ensures { λ r. ⌜ r ≡ madeWith s ⌝ }
+{
+    let name = (s.own % 256) as u8;
+    Step {
+        servers: s.servers,
+        own: s.own,
+        log: key::LOG,
+        id: [name; 16],
+        seed: [name; 32],
+        randomizer: [(s.number % 256) as u8; 32],
+        kind: s.kind,
+        position: s.number,
+        users: s.users,
+        tree: s.tree,
+        request: s.request,
+        entry: s.entry,
+    }
+}
+
+// A step on the place of a user, in a slice with the keys from a place on. The input is the entry of a Write, or the answer that is taken
+// in.
+pub fn step(s: Settings, user: u8, keys: u32, input: &[u8], world: &mut [u8])
+    ensures { λ _. ⌜ now (world .exit) ≡ stepOn s user keys (now (input .entry)) (now (world .entry)) ⌝ }
+{
+    let at = layout(user, keys, (s.own % 256) as u8);
+    let asked = user_step::on(made_with(s), at, input, world);
+    keep_step(s.kind, asked, user, world);
+}
+
+// What is kept.
+fn kept_of(place: &[u8]) -> [u8; 46]
+    ensures { λ r. ⌜ r ≡ keptIn (now (place .entry)) ⌝ }
+{
+    let mut kept = [0u8; 46];
+    user_step::load(place, 0, &mut kept);
+    kept
 }
 
 // Whether the own operation at the settings' number is settled.
@@ -186,7 +231,7 @@ pub fn settled(s: Settings, keys: &[u8], place: &[u8]) -> SettledAnswer
     ensures { λ r. ⌜ r ≡ settledOn s (now (keys .entry)) (now (place .entry)) ⌝ }
 {
     let log = key::LOG;
-    let kept = buffers::kept_of(place);
+    let kept = kept_of(place);
     let users = bytes::front(keys, s.users as usize);
-    user_start::settled(s.servers, s.own, &log, users, &kept, s.number)
+    using::settled(s.servers, s.own, &log, users, &kept, s.number)
 }

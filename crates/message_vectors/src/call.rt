@@ -1,37 +1,16 @@
 // A user's calls, each driven by the servers' answers, with every message printed.
-ghost use Prim.Native.Nat.{_≤_};
 use crate::hex;
 use crate::world;
-use exchange::server_place;
+use exchange::run;
 use exchange::user_place;
-use exchange::user_place::Settings;
 use programs::place;
 use programs::print;
 use sha256::bytes;
 
-// One step of a user, on a copy of its place: two users are listed.
-fn step(own: u8, kind: u8, number: u32, input: &[u8], world: &mut [u8]) {
-    let usual = Settings {
-        servers: world::SERVERS as u32,
-        own: own as u32,
-        kind,
-        number,
-        users: 112,
-        tree: 65504,
-        request: 2566,
-        entry: 1024,
-    };
-    let mut place = [0u8; 16384];
-    let at = place::at(own);
-    user_place::load(world, at, &mut place);
-    user_place::step(usual, world::keys(world), input, &mut place);
-    bytes::put(world, at, &place);
-}
-
 // An Update, to its end.
 pub fn update(own: u8, world: &mut [u8]) {
     print::filled(b"\nUpdate by user #\n", &[own as u32]);
-    step(own, 1, 0, b"", world);
+    run::step(world::run(), own, 1, 0, b"", world);
     answers(own, world);
     end(own, world);
 }
@@ -42,7 +21,7 @@ pub fn write(own: u8, entry: &[u8], world: &mut [u8]) {
     print::filled(b"\nWrite by user #\n", &[own as u32]);
     hex::line(b"entry ", entry);
     hex::line(b"randomizer ", &[(number % 256) as u8; 32]);
-    step(own, 2, number, entry, world);
+    run::step(world::run(), own, 2, number, entry, world);
     answers(own, world);
     end(own, world);
 }
@@ -50,7 +29,7 @@ pub fn write(own: u8, entry: &[u8], world: &mut [u8]) {
 // A Read of a position, to its end, and what it found.
 pub fn read(own: u8, position: u32, world: &mut [u8]) {
     print::filled(b"\nRead by user #\nposition #\n", &[own as u32, position]);
-    step(own, 3, position, b"", world);
+    run::step(world::run(), own, 3, position, b"", world);
     answers(own, world);
     end(own, world);
     print_found(place::of(own, world));
@@ -71,10 +50,10 @@ fn end(own: u8, world: &[u8]) {
     hex::line(b"kept ", bytes::front(place, user_place::CALL));
 }
 
-// Takes in answers until the call ends. No call takes more than 99.
+// Takes in answers until the call ends.
 fn answers(own: u8, world: &mut [u8]) {
     let mut taken: u32 = 0;
-    while taken < 99 {
+    while taken < run::ALL {
         if user_place::ended(place::of(own, world)) {
             return;
         }
@@ -86,51 +65,25 @@ fn answers(own: u8, world: &mut [u8]) {
 // One answer of the server that a user asks, taken in.
 fn turn(own: u8, world: &mut [u8]) {
     let mut request = [0u8; 2566];
-    let place = place::of(own, world);
-    let server = bytes::byte_at(place, user_place::SERVER);
-    let asked = user_place::request_of(place);
-    let n = asked.len();
-    bytes::put(&mut request, 0, asked);
     let mut answer = [0u8; 2552];
-    let size = ask(
-        server,
-        world::PLACE,
-        bytes::front(&request, n),
-        world,
-        &mut answer,
-    );
-    step(own, 0, 0, bytes::front(&answer, size), world);
+    let n = run::request_out(own, world, &mut request);
+    let server = run::server_asked(own, world);
+    let sent = bytes::front(&request, n);
+    let size = ask(server, world::PLACE as u32, sent, world, &mut answer);
+    run::step(world::run(), own, 0, 0, bytes::front(&answer, size), world);
 }
 
 // A request to a server on the first `room` bytes of its place, and what came of it, printed: the answer, the head and the used length
 // after it, and the record that was stored, where one was. Hands back the answer's length.
-pub fn ask(server: u8, room: usize, request: &[u8], world: &mut [u8], answer: &mut [u8]) -> usize
-    requires { ⌜ room ≤ 8192 ⌝ }
-{
+pub fn ask(server: u8, room: u32, request: &[u8], world: &mut [u8], answer: &mut [u8]) -> usize {
     let before = world::used(server, world);
     print::filled(b"server #\n", &[server as u32]);
     hex::line(b"request ", request);
-    let n = serve(server, room, request, world, answer);
+    let n = run::served(world::run_on(room), 1, server, request, world, answer);
     hex::line(b"answer ", bytes::front(answer, n));
     world::print_server(server, world);
     print_record(world::stored_from(server, before, world));
     n
-}
-
-// The call of the server, with a copy of the user list. Hands back the answer's length.
-fn serve(server: u8, room: usize, request: &[u8], world: &mut [u8], answer: &mut [u8]) -> usize
-    requires { ⌜ room ≤ 8192 ⌝ }
-{
-    let mut users = [0u8; 112];
-    user_place::load(world::keys(world), 0, &mut users);
-    let at = world::server_at(server);
-    if world.len() < at + room {
-        return 0;
-    }
-    let place = &mut world[at..at + room];
-    let n = world::SERVERS as u32;
-    let out = server_place::serve(n, server as u32, &users, place, request, answer);
-    out.answer as usize
 }
 
 // The record that was stored, where one was.

@@ -37,7 +37,10 @@ fn user(own: u8, keys: &[u8]) {
     hex::line(b"identifier ", &[own; 16]);
     hex::line(
         b"key ",
-        bytes::front(bytes::from(keys, 56 * key::before(own)), 56),
+        bytes::front(
+            bytes::from(keys, key::PUBLIC * key::before(own)),
+            key::PUBLIC,
+        ),
     );
 }
 

@@ -1,6 +1,5 @@
 // Requests beside the honest run, most of them refused: at least one for each code 1 to 9 and 27. Each line of data/cases.txt is one, and
 // data/README.md says what its numbers mean; it counts them from 1, the code from 0.
-ghost use Prim.Native.Nat.{_≤_};
 use crate::call;
 use crate::world;
 use exchange::server_place;
@@ -49,24 +48,17 @@ fn send(f: [u32; 16], text: &[u8], world: &mut [u8]) {
     let mut space = [0u8; 2566];
     let mut answer = [0u8; 2552];
     let request: &mut [u8] = &mut space;
-    let n = lay(
-        f,
-        text,
-        bytes::from(world, world::server_at(server)),
-        request,
-    );
+    let n = lay(f, text, world::server(server, world), request);
     let whole = bytes::front(request, n - line::at_most(f[8], n));
     call::ask(server, room(f[9]), whole, world, &mut answer);
 }
 
 // How many bytes of a place are lent, where 0 stands for all.
-fn room(lent: u32) -> usize
-    ensures { λ r. ⌜ r ≤ 8192 ⌝ }
-{
+fn room(lent: u32) -> u32 {
     if lent == 0 {
-        return world::PLACE;
+        return world::PLACE as u32;
     }
-    line::at_most(lent, world::PLACE)
+    lent
 }
 
 // Lays the request of a line to a server with this place, and answers its length.

@@ -1,7 +1,7 @@
 // The log's name, and users' keys in one slice: the user list, up to 65 public keys, in the first 3,640 bytes, then the key trees of users
 // 1, 2 and 3.
 ghost use mathlib.Core.Path.{_≡_};
-ghost use Prim.Native.Nat.{_<_};
+ghost use Prim.Native.Nat.{_<_, _≤_};
 ghost use lib.ListN.{length, drop};
 ghost use Rattle.lines.specs.Memory.{zeros};
 ghost use Rattle.programs.specs.Key.{before as beforeOf, treeAt, keysWith};
@@ -26,6 +26,13 @@ pub const LOG: [u8; 16] = [
     b'1',
 ];
 
+// How many bytes a public key has, the list of public keys, a key tree.
+pub const PUBLIC: usize = 56;
+
+pub const LIST: usize = 3640;
+
+pub const TREE: usize = 65504;
+
 // The memory of the keys, zero.
 pub fn memory() -> [u8; 200152]
     ensures { λ r. ⌜ (200152 ≡ length r) × (r ≡ zeros 200152) ⌝ }
@@ -41,10 +48,10 @@ pub fn before(a: u8) -> usize
 }
 
 // Where the tree of user 1, 2 or 3 stands.
-fn tree_at(a: u8) -> usize
-    ensures { λ r. ⌜ r ≡ treeAt a ⌝ }
+pub fn tree_at(a: u8) -> usize
+    ensures { λ r. ⌜ (r ≡ treeAt a) × (r ≤ 134648) ⌝ }
 {
-    3640 + 65504 * before(a)
+    LIST + TREE * before(a)
 }
 
 fn blank_tree() -> [u8; 65504]
@@ -67,7 +74,7 @@ pub fn make(a: u8, keys: &mut [u8])
     let mut public = blank_key();
     lms::generate(6, 3, [a; 32], [a; 16], &mut tree);
     lms::public_key(6, 3, [a; 16], &tree, &mut public);
-    bytes::put(keys, 56 * before(a), &public);
+    bytes::put(keys, PUBLIC * before(a), &public);
     bytes::put(keys, tree_at(a), &tree);
 }
 

@@ -1,4 +1,4 @@
-// Places of users 1, 2 and 3, one after the other from the front of a slice, 16,384 bytes each.
+// Places of users 1, 2 and 3, one after the other from the front of a slice.
 ghost use mathlib.Core.Path.{_≡_};
 ghost use Prim.Native.Nat.{_≤_};
 ghost use lib.ListN.{drop};
@@ -6,11 +6,14 @@ ghost use Rattle.programs.specs.Key.{placeAt};
 use crate::key;
 use sha256::bytes;
 
+// How many bytes a place has.
+pub const SIZE: usize = 16384;
+
 // Where the place of a user begins.
 pub fn at(own: u8) -> usize
     ensures { λ r. ⌜ (r ≡ placeAt own) × (r ≤ 32768) ⌝ }
 {
-    16384 * key::before(own)
+    SIZE * key::before(own)
 }
 
 // The place of a user, with what follows it.

@@ -1,12 +1,20 @@
-// One call of the server on a place of 8,232 bytes.
+// One call of the server on a place.
 ghost use mathlib.Core.Path.{_≡_};
 ghost use lib.ListN.{length};
 use c_layout::serving::Served;
 use exchange::server_place;
+use programs::key;
 use programs::line;
 use programs::print;
 use sha256::bytes;
 use tree::digest;
+
+// How many bytes a server's place, its store and the answer buffer have.
+pub const PLACE: usize = 8232;
+
+const STORE: usize = 8144;
+
+const ANSWER: usize = 2552;
 
 // The settings of a call that is not changed: N is 4, the own number is the place's, there are two users. Then the head's position,
 // level and author, the used length, and the lengths of the store, the request and the answer buffer. What is at 0 and at 11 means nothing.
@@ -15,14 +23,14 @@ pub fn usual(own: u32, request: u32, place: &[u8]) -> [u32; 12] {
         0,
         4,
         own,
-        112,
+        2 * key::PUBLIC as u32,
         bytes::u32_at(place, 0),
         bytes::byte_at(place, server_place::LEVEL) as u32,
         bytes::u16_at(place, server_place::AUTHOR) as u32,
         bytes::u32_at(place, server_place::USED),
-        8144,
+        STORE as u32,
         request,
-        2552,
+        ANSWER as u32,
         0,
     ]
 }
@@ -32,9 +40,9 @@ pub fn serve(s: [u32; 12], keys: &[u8], place: &mut [u8], request: &[u8])
     requires { ⌜ length (now place) ≡ 8232 ⌝ }
 {
     lay(s, place);
-    let end = server_place::STORE + line::at_most(s[8], 8144);
-    let room = line::at_most(s[10], 2552);
-    let mut answer = [0u8; 2552];
+    let end = server_place::STORE + line::at_most(s[8], STORE);
+    let room = line::at_most(s[10], ANSWER);
+    let mut answer = [0u8; ANSWER];
     lent(
         s,
         keys,

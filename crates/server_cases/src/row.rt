@@ -13,9 +13,13 @@ use sha256::bytes;
 pub fn run(text: &[u8], world: &mut [u8], keys: &[u8]) {
     let n = lines::find(text, b':');
     let f = line::numbers(bytes::from(bytes::from(text, n), 2));
-    let at = (f[0] % 8) as usize * 8232;
-    let mut place = [0u8; 8232];
-    bytes::put(&mut place, 0, bytes::front(bytes::from(world, at), 8232));
+    let at = (f[0] % 8) as usize * call::PLACE;
+    let mut place = [0u8; call::PLACE];
+    bytes::put(
+        &mut place,
+        0,
+        bytes::front(bytes::from(world, at), call::PLACE),
+    );
     line::patch(&mut place, 3000, server_place::STORE as u8, f[10], f[11]);
     line::patch(&mut place, 6000, 0, f[10], f[11]);
     print::text(bytes::front(text, n));

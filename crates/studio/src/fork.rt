@@ -1,45 +1,38 @@
 // Servers that keep two copies of the log, one for the odd users and one for the even ones: where the users' views differ, and which
 // refusal shows it.
 ghost use Prim.Native.Nat.{_≤_};
-use crate::call;
-use crate::group::Group;
 use crate::report;
 use crate::world;
+use exchange::run;
+use exchange::run::Run;
 use exchange::user_place;
 use programs::place;
 use programs::print;
 use sha256::bytes;
 
 // From now on every server but one keeps two copies.
-pub fn begin(g: Group, honest: u32, world: &mut [u8]) -> Group {
-    if g.forked {
+pub fn begin(r: Run, honest: u32, world: &mut [u8]) {
+    if r.second != 0 {
         print::text(b"  the log is forked already\n");
-        return g;
+        return;
     }
-    world::copy(world);
-    let forked = Group {
-        servers: g.servers,
-        forked: true,
-        honest: (honest % 256) as u8,
-        common: world::longest(world),
-    };
-    report::forked(forked);
-    forked
+    world::fork((honest % 256) as u8, world);
+    report::forked(world::run(world), world::common(world));
 }
 
 // What is to be said after a user's Update or Write on a forked log.
-pub fn after(g: Group, own: u8, open_before: bool, world: &mut [u8]) {
-    let operation = report::next(world::version(own, world));
-    notice(g, own, operation, open_before, world);
-    if g.forked {
-        compare(g, own, own % 3 + 1, world);
-        compare(g, own, (own % 3 + 1) % 3 + 1, world);
+pub fn after(r: Run, own: u8, open_before: bool, world: &mut [u8]) {
+    let operation = report::next(run::version(own, world));
+    notice(r, own, operation, open_before, world);
+    if r.second != 0 {
+        compare(r, own, own % 3 + 1, world);
+        compare(r, own, (own % 3 + 1) % 3 + 1, world);
     }
 }
 
 // Says whether the refusal of a user's last step, at an operation, shows the fork.
-pub fn notice(g: Group, own: u8, operation: u32, open_before: bool, world: &[u8]) {
-    if !g.forked {
+pub fn notice(r: Run, own: u8, operation: u32, open_before: bool, world: &[u8]) {
+    if r.second == 0 {
         return;
     }
     let place = place::of(own, world);
@@ -53,7 +46,7 @@ pub fn notice(g: Group, own: u8, operation: u32, open_before: bool, world: &[u8]
         );
         return;
     }
-    report::noticed(g, own, operation);
+    report::noticed(r, world::common(world), own, operation);
 }
 
 // Whether a refusal shows that a server broke the rules, where no write was open. Servers that all follow them give no answer that a
@@ -75,23 +68,23 @@ fn may_wait(code: u8) -> bool {
 }
 
 // Compares the views of two users: says where their reads differ first, if they do.
-fn compare(g: Group, a: u8, b: u8, world: &mut [u8]) {
-    let shorter = call::lesser(world::version(a, world), world::version(b, world));
-    let d = first_difference(g, a, b, shorter, world);
+fn compare(r: Run, a: u8, b: u8, world: &mut [u8]) {
+    let shorter = run::shorter(a, b, world);
+    let d = first_difference(r, a, b, shorter, world);
     if d != 0 {
-        report::difference(g, a, b, d, report::next(shorter - d));
+        report::difference(r, a, b, d, report::next(shorter - d));
     }
 }
 
 // The first position up to `shorter` that two users read differently; 0 where there is none.
-fn first_difference(g: Group, a: u8, b: u8, shorter: u32, world: &mut [u8]) -> u32
+fn first_difference(r: Run, a: u8, b: u8, shorter: u32, world: &mut [u8]) -> u32
     ensures { λ r. ⌜ r ≤ shorter ⌝ }
 {
     let mut p: u32 = 0;
     while p < shorter {
         p += 1;
-        call::read(g, a, p, world);
-        call::read(g, b, p, world);
+        run::read(r, a, p, world);
+        run::read(r, b, p, world);
         if differ(place::of(a, world), place::of(b, world)) {
             return p;
         }

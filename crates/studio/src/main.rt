@@ -3,14 +3,11 @@
 // times, its curve and when it may begin, and, once the servers keep two copies of the log, where the users' views differ, against Q, and
 // who notices it.
 mod board;
-mod call;
 mod fork;
-mod group;
 mod report;
 mod run;
 mod world;
 
-use group::Group;
 use libc::STDIN_FILENO;
 use sha256::bytes;
 
@@ -30,14 +27,14 @@ fn lines_of(text: &[u8]) {
     let mut memory = world::zeros();
     let world: &mut [u8] = &mut memory;
     world::make_keys(world);
-    let mut group = group::fresh(4);
+    world::set_servers(4, world);
     let mut number: usize = 0;
     let mut at = 0;
     while at < text.len() {
         let rest = bytes::from(text, at);
         let line = bytes::front(rest, lines::line_length(rest));
         number += 1;
-        group = run::line(line, number, group, world);
+        run::line(line, number, world);
         at += lines::find(rest, b'\n') + 1;
     }
 }

@@ -1,6 +1,6 @@
 // What is printed.
-use crate::group::Group;
-use c_layout::user_start::SettledAnswer;
+use c_layout::using::SettledAnswer;
+use exchange::run::Run;
 use exchange::user_place;
 use firing::entry;
 use firing_text::kiln;
@@ -71,10 +71,10 @@ fn range(at: usize, which: u8, least: u32, most: u32) {
 }
 
 // A new log.
-pub fn begun(g: Group) {
+pub fn begun(servers: u32) {
     print::filled(
         b"  a new log on # servers; users 1, 2 and 3 have version 0\n",
-        &[g.servers as u32],
+        &[servers],
     );
 }
 
@@ -201,7 +201,7 @@ pub fn board(own: u8, entries: u32) {
 }
 
 // Whether the operation is settled that a user has read.
-pub fn settled(g: Group, own: u8, position: u32, s: SettledAnswer, place: &[u8]) {
+pub fn settled(r: Run, own: u8, position: u32, s: SettledAnswer, place: &[u8]) {
     let version = bytes::u32_at(place, 0);
     let author = bytes::u16_at(place, user_place::AUTHOR);
     print::filled(
@@ -210,8 +210,8 @@ pub fn settled(g: Group, own: u8, position: u32, s: SettledAnswer, place: &[u8])
             s.code,
             version,
             position,
-            g.servers as u32,
-            wait(g, position),
+            r.servers as u32,
+            wait(r, position),
         ],
     );
     if s.code != 0 {
@@ -234,30 +234,30 @@ fn standing(is_own: bool, is_settled: bool) {
 }
 
 // Q of a position.
-fn wait(g: Group, position: u32) -> u32 {
-    label::wait(position, g.servers) as u32
+fn wait(r: Run, position: u32) -> u32 {
+    label::wait(position, r.servers) as u32
 }
 
-// A fork that begins.
-pub fn forked(g: Group) {
-    let first = next(g.common);
+// A fork that begins, where the longest view has so many operations.
+pub fn forked(r: Run, common: u32) {
+    let first = next(common);
     print::filled(
         b"  every server but # keeps two copies from now on: one for users 1 and 3, one for user 2\n  \
         positions up to # are in both; the first that can differ is #, and Q(#, #) = #\n",
         &[
-            g.honest as u32,
-            g.common,
+            r.honest as u32,
+            common,
             first,
             first,
-            g.servers as u32,
-            wait(g, first),
+            r.servers as u32,
+            wait(r, first),
         ],
     );
 }
 
-// A user that a refusal shows the fork.
-pub fn noticed(g: Group, own: u8, operation: u32) {
-    let first = next(g.common);
+// A user that a refusal shows the fork, where the longest view had so many operations when it began.
+pub fn noticed(r: Run, common: u32, own: u8, operation: u32) {
+    let first = next(common);
     print::filled(
         b"  fork at position #: user # notices it at operation #; Q(#, #) = #\n",
         &[
@@ -265,14 +265,14 @@ pub fn noticed(g: Group, own: u8, operation: u32) {
             own as u32,
             operation,
             first,
-            g.servers as u32,
-            wait(g, first),
+            r.servers as u32,
+            wait(r, first),
         ],
     );
 }
 
 // Views that differ from position d on, with so many operations from there to the end of the shorter one.
-pub fn difference(g: Group, a: u8, b: u8, d: u32, operations: u32) {
+pub fn difference(r: Run, a: u8, b: u8, d: u32, operations: u32) {
     print::filled(
         b"  users # and # read position # differently; operations from there to the end of the shorter view: #, at most Q(#, #) = #\n",
         &[
@@ -281,8 +281,8 @@ pub fn difference(g: Group, a: u8, b: u8, d: u32, operations: u32) {
             d,
             operations,
             d,
-            g.servers as u32,
-            wait(g, d),
+            r.servers as u32,
+            wait(r, d),
         ],
     );
 }

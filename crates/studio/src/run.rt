@@ -1,11 +1,11 @@
 // What the lines of a script do.
 use crate::board;
-use crate::call;
 use crate::fork;
-use crate::group;
-use crate::group::Group;
 use crate::report;
 use crate::world;
+use exchange::run;
+use exchange::run::Call;
+use exchange::run::Run;
 use exchange::user_place;
 use firing_text::kiln;
 use programs::place;
@@ -14,138 +14,154 @@ use script::Command;
 use script::Word;
 use sha256::bytes;
 
-// Runs a line, and answers the group after it. A line with a fault changes nothing.
-pub fn line(line: &[u8], number: usize, g: Group, world: &mut [u8]) -> Group {
+// Runs a line. A line with a fault changes nothing.
+pub fn line(line: &[u8], number: usize, world: &mut [u8]) {
     if script::is_idle(line) {
-        return g;
+        return;
     }
     report::echo(line);
     let text = bytes::from(line, lines::skip_blanks(line, 0));
-    let c = script::parse(text, g.servers);
+    let r = world::run(world);
+    let c = script::parse(text, r.servers);
     if report::fault(number, c) {
-        return g;
+        return;
     }
     let word = c.word;
     match word {
         Word::Servers => begin(c.first, world),
-        Word::Fork => fork::begin(g, c.first, world),
-        _ => {
-            act(c, text, g, world);
-            g
-        }
+        Word::Fork => fork::begin(r, c.first, world),
+        _ => act(c, text, r, world),
     }
 }
 
 // A new log of n servers.
-fn begin(n: u32, world: &mut [u8]) -> Group {
+fn begin(n: u32, world: &mut [u8]) {
     world::begin(world);
-    let g = group::fresh((n % 256) as u8);
-    report::begun(g);
-    g
+    world::set_servers((n % 256) as u8, world);
+    report::begun(n);
 }
 
 // A user's call.
-fn act(c: Command, line: &[u8], g: Group, world: &mut [u8]) {
+fn act(c: Command, line: &[u8], r: Run, world: &mut [u8]) {
     let own = (c.first % 256) as u8;
     let rest = bytes::from(line, c.text);
     let word = c.word;
     match word {
-        Word::Update => update(g, own, world),
-        Word::Read | Word::Report | Word::Warm | Word::Begin => read(c, rest, g, world),
-        Word::Board => board::show(g, own, world),
-        Word::Settled => settled(g, own, c.second, world),
-        Word::Strike => strike(g, own, c.second, world),
-        Word::Fire => fire(g, own, rest, world),
-        Word::GiveUp => give_up(g, own, 99, world),
-        Word::CutGiveUp => give_up(g, own, c.second, world),
-        _ => write(c, rest, g, world),
+        Word::Update => update(r, own, world),
+        Word::Read | Word::Report | Word::Warm | Word::Begin => read(c, rest, r, world),
+        Word::Board => board::show(r, own, world),
+        Word::Settled => settled(r, own, c.second, world),
+        Word::Strike => strike(r, own, c.second, world),
+        Word::Fire => fire(r, own, rest, world),
+        Word::GiveUp => give_up(r, own, run::ALL, world),
+        Word::CutGiveUp => give_up(r, own, c.second, world),
+        _ => write(c, rest, r, world),
     }
 }
 
-fn update(g: Group, own: u8, world: &mut [u8]) {
+fn update(r: Run, own: u8, world: &mut [u8]) {
     let open_before = world::some_open(world);
-    let answers = call::update(g, own, world);
+    let c = Call {
+        own,
+        kind: 1,
+        number: 0,
+        most: run::ALL,
+    };
+    let answers = run::make(r, c, b"", world);
     report::call(place::of(own, world), answers);
-    fork::after(g, own, open_before, world);
+    fork::after(r, own, open_before, world);
 }
 
 // A give-up of the open write. No server that follows the rules refuses one but with 27, which ends it like 0.
-fn give_up(g: Group, own: u8, most: u32, world: &mut [u8]) {
-    let answers = call::give_up(g, own, most, world);
+fn give_up(r: Run, own: u8, most: u32, world: &mut [u8]) {
+    let c = Call {
+        own,
+        kind: 4,
+        number: 0,
+        most,
+    };
+    let answers = run::make(r, c, b"", world);
     let place = place::of(own, world);
     report::call(place, answers);
     report::given_up(place);
-    let operation = report::next(world::version(own, world));
-    fork::notice(g, own, operation, false, world);
+    let operation = report::next(run::version(own, world));
+    fork::notice(r, own, operation, false, world);
 }
 
 // Reads a position, and prints the entry there or what is reported of its firing, with the windows that a text lists.
-fn read(c: Command, text: &[u8], g: Group, world: &mut [u8]) {
+fn read(c: Command, text: &[u8], r: Run, world: &mut [u8]) {
     let own = (c.first % 256) as u8;
     let word = c.word;
-    let answers = call::read(g, own, c.second, world);
+    let answers = run::read(r, own, c.second, world);
     let place = place::of(own, world);
     report::call(place, answers);
     match word {
         Word::Read => report::entry(c.second, place),
         _ => report::firing(c, text, place),
     }
-    fork::notice(g, own, c.second, world::some_open(world), world);
+    fork::notice(r, own, c.second, world::some_open(world), world);
 }
 
-fn settled(g: Group, own: u8, position: u32, world: &mut [u8]) {
-    let asked = call::settings(g, own, 0, position);
-    let s = user_place::settled(asked, world::keys(world), place::of(own, world));
-    call::read(g, own, position, world);
-    report::settled(g, own, position, s, place::of(own, world));
+fn settled(r: Run, own: u8, position: u32, world: &mut [u8]) {
+    let asked = run::settings(r, own, 0, position);
+    let s = user_place::settled(asked, run::keys(r, world), place::of(own, world));
+    run::read(r, own, position, world);
+    report::settled(r, own, position, s, place::of(own, world));
 }
 
 // An entry that inserts a text.
-fn write(c: Command, text: &[u8], g: Group, world: &mut [u8]) {
+fn write(c: Command, text: &[u8], r: Run, world: &mut [u8]) {
     let own = (c.first % 256) as u8;
     let word = c.word;
     match word {
-        Word::Cut => insert(g, own, text, c.second, world),
-        Word::Resume => resume(g, own, text, world),
-        _ => insert(g, own, text, 99, world),
+        Word::Cut => insert(r, own, text, c.second, world),
+        Word::Resume => resume(r, own, text, world),
+        _ => insert(r, own, text, run::ALL, world),
     }
 }
 
-fn resume(g: Group, own: u8, text: &[u8], world: &mut [u8]) {
+fn resume(r: Run, own: u8, text: &[u8], world: &mut [u8]) {
     if world::is_open(own, world) {
-        insert(g, own, text, 99, world);
+        insert(r, own, text, run::ALL, world);
     } else {
         print::text(b"  this user has no open write\n");
     }
 }
 
 // An entry that inserts a text: the byte 1 before it.
-fn insert(g: Group, own: u8, text: &[u8], most: u32, world: &mut [u8]) {
+fn insert(r: Run, own: u8, text: &[u8], most: u32, world: &mut [u8]) {
     let mut entry = [0u8; 1024];
     bytes::put2(&mut entry, 0, &[1], text);
     let whole = bytes::front(&entry, 1 + text.len());
-    write_entry(g, own, whole, most, world);
+    write_entry(r, own, whole, most, world);
 }
 
 // An entry that strikes a position: the byte 2 before its four bytes.
-fn strike(g: Group, own: u8, position: u32, world: &mut [u8]) {
+fn strike(r: Run, own: u8, position: u32, world: &mut [u8]) {
     let p = bytes::be4(position);
     let entry = [2, p[0], p[1], p[2], p[3]];
-    write_entry(g, own, &entry, 99, world);
+    write_entry(r, own, &entry, run::ALL, world);
 }
 
 // An entry that holds a firing, with the segments that a text lists.
-fn fire(g: Group, own: u8, text: &[u8], world: &mut [u8]) {
+fn fire(r: Run, own: u8, text: &[u8], world: &mut [u8]) {
     let mut entry = [0u8; 98];
     let length = kiln::lay(text, &mut entry);
-    write_entry(g, own, bytes::front(&entry, length), 99, world);
+    write_entry(r, own, bytes::front(&entry, length), run::ALL, world);
 }
 
-fn write_entry(g: Group, own: u8, entry: &[u8], most: u32, world: &mut [u8]) {
+// A Write of an entry, or of the open one that it resumes. Its randomizer is the own number 32 times.
+fn write_entry(r: Run, own: u8, entry: &[u8], most: u32, world: &mut [u8]) {
     let open_before = world::some_open(world);
-    let answers = call::write(g, own, entry, most, world);
+    let c = Call {
+        own,
+        kind: 2,
+        number: own as u32,
+        most,
+    };
+    let answers = run::make(r, c, entry, world);
     let place = place::of(own, world);
     report::call(place, answers);
     report::cut(place);
-    fork::after(g, own, open_before, world);
+    fork::after(r, own, open_before, world);
 }

@@ -1,13 +1,32 @@
 // All places and keys in one slice: in the first 65,536 bytes the places of users 1, 2 and 3, 16,384 bytes each; then 65,536 bytes for each
-// copy of each server, first the servers 1 to 16, then their second copies; then the users' keys.
+// copy of each server, first the servers 1 to 16, then their second copies; then the users' keys. Behind the users' places stands
+// what the run is.
 ghost use mathlib.Core.Path.{_≡_};
 ghost use lib.ListN.{length};
+use exchange::run;
+use exchange::run::Run;
 use exchange::user_place;
+use exchange::user_step;
 use programs::key;
 use programs::place;
 use sha256::bytes;
 
-const KEYS: usize = 2162688;
+// How many bytes a server's place has, and where the second copies and the keys begin.
+const PLACE: u32 = 65536;
+
+const SECOND: u32 = 1048576;
+
+const KEYS: u32 = 2162688;
+
+// Where the length of the longest view when the second copies began stands, and of the run: N, how far the second copies are behind, and
+// the server that has none.
+const COMMON: usize = 49152;
+
+const SERVERS: usize = 49156;
+
+const FORKED: usize = 49157;
+
+const HONEST: usize = 49161;
 
 // The memory of all places and keys, zero. The `ensures` gives only the length, so that no proof computes with the list.
 pub fn zeros() -> [u8; 2362840]
@@ -16,21 +35,43 @@ pub fn zeros() -> [u8; 2362840]
     [0; 2362840]
 }
 
+// The run as it goes on.
+pub fn run(world: &[u8]) -> Run {
+    Run {
+        servers: bytes::byte_at(world, SERVERS),
+        users: 3,
+        first: PLACE,
+        apart: PLACE,
+        size: PLACE,
+        keys: KEYS,
+        second: bytes::u32_at(world, FORKED),
+        honest: bytes::byte_at(world, HONEST),
+    }
+}
+
+// From now on there are n servers, which all follow the rules.
+pub fn set_servers(n: u8, world: &mut [u8]) {
+    bytes::put(world, SERVERS, &[n, 0, 0, 0, 0, 0]);
+}
+
+// From now on every server but one shows user 2 its second copy, which begins as the server is.
+pub fn fork(honest: u8, world: &mut [u8]) {
+    copy(world);
+    let common = bytes::be4(longest(world));
+    bytes::put(world, COMMON, &common);
+    bytes::put2(world, FORKED, &bytes::be4(SECOND), &[honest]);
+}
+
+// The length of the longest view when the second copies began.
+pub fn common(world: &[u8]) -> u32 {
+    bytes::u32_at(world, COMMON)
+}
+
 // Makes the keys of the three users.
 pub fn make_keys(world: &mut [u8]) {
     let mut keys = key::of_two();
     key::make(3, &mut keys);
-    bytes::put(world, KEYS, &keys);
-}
-
-// The users' keys.
-pub fn keys(world: &[u8]) -> &[u8] {
-    bytes::from(world, KEYS)
-}
-
-// How many operations a user's view has.
-pub fn version(own: u8, world: &[u8]) -> u32 {
-    bytes::u32_at(place::of(own, world), 0)
+    bytes::put(world, KEYS as usize, &keys);
 }
 
 // Whether a user's write is open.
@@ -50,10 +91,10 @@ pub fn some_open(world: &[u8]) -> bool {
 }
 
 // The length of the longest view.
-pub fn longest(world: &[u8]) -> u32 {
+fn longest(world: &[u8]) -> u32 {
     greater(
-        version(1, world),
-        greater(version(2, world), version(3, world)),
+        run::version(1, world),
+        greater(run::version(2, world), run::version(3, world)),
     )
 }
 
@@ -89,13 +130,13 @@ fn begin_servers(world: &mut [u8]) {
 }
 
 // The servers' second copies begin as the servers are.
-pub fn copy(world: &mut [u8]) {
+fn copy(world: &mut [u8]) {
     let mut space = io::large_buffer();
     let one: &mut [u8] = &mut space;
     let mut k: usize = 0;
     while k < 16 {
         k += 1;
-        user_place::load(world, 65536 * k, one);
+        user_step::load(world, 65536 * k, one);
         bytes::put(world, 65536 * (k + 16), one);
     }
 }

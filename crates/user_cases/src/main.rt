@@ -2,6 +2,7 @@
 // that go on after a refusal, a Write that is cut after each of its answers and resumed; and writes that are given up (document 02, e).
 // Each line of data/cases.txt is one step or a run of answers. data/README.md says what its numbers mean, and what is printed.
 mod answer;
+mod case;
 mod report;
 mod row;
 mod step;

@@ -1,7 +1,9 @@
 // What is printed of a place after a step.
+use crate::case::Case;
 use crate::step;
 use crate::work;
 use exchange::user_place;
+use exchange::user_step;
 use programs::print;
 use sha256::bytes;
 use tree::digest;
@@ -52,8 +54,18 @@ pub fn state(place: &[u8]) {
     hash(b" signature ", place, user_place::SIGNATURE, 2508);
     hash(b" call ", place, user_place::CALL, 82);
     hash(b" memory ", place, user_place::HASHES, 2274);
-    hash(b" request ", place, user_place::REQUEST, 2566);
-    hash(b" entry ", place, user_place::ENTRY, 1024);
+    hash(
+        b" request ",
+        place,
+        user_place::REQUEST,
+        user_step::LONGEST_REQUEST,
+    );
+    hash(
+        b" entry ",
+        place,
+        user_place::ENTRY,
+        user_step::LONGEST_ENTRY,
+    );
     if bytes::byte_at(place, user_place::KIND) == 3 {
         found(place);
     }
@@ -66,9 +78,14 @@ fn found(place: &[u8]) {
     print::filled(b" found # #", &[author as u32, length as u32]);
 }
 
+// The SHA-256 of the four servers.
+pub fn servers(work: &[u8]) {
+    print::figures(b" servers ", sha256::hash(work::servers(work)));
+}
+
 // Whether the position that a line says is settled.
-pub fn settled(f: [u32; 16], work: &mut [u8]) {
-    let s = step::prepare(f, 0, f[3], work);
+pub fn settled(c: Case, work: &mut [u8]) {
+    let s = step::prepare(c, 0, c.n4, work);
     let r = user_place::settled(s, work::keys(work), work);
     print::number(b": code ", r.code as usize);
     if r.settled == 1 {

@@ -1,58 +1,63 @@
-// One step of a user on its place, with the settings of a line.
+// One step of a user on its place, with the settings of a line: N is 4, the own number is the place's, two users are listed, and what is
+// kept and lent is as usual, unless the line changes it.
+use crate::case;
+use crate::case::Case;
+use crate::case::Changes;
 use crate::work;
 use exchange::user_place;
 use exchange::user_place::Settings;
-use programs::line;
+use exchange::user_step;
+use programs::key;
 use sha256::bytes;
 
-// The settings of a line that changes none: N is 4, the own number is the place's, two users; what is kept: version, number, whether a
-// write is open and signed; the lengths of the request buffer, the key tree, the entry buffer; 9,999 for an answer of its own length. What
-// is at 0 means nothing.
-fn usual(own: u32, place: &[u8]) -> [u32; 12] {
-    [
-        0,
-        4,
-        own,
-        112,
-        bytes::u32_at(place, 0),
-        bytes::u32_at(place, user_place::NUMBER),
-        bytes::byte_at(place, user_place::OPENED) as u32,
-        bytes::byte_at(place, user_place::SIGNED) as u32,
-        2566,
-        65504,
-        1024,
-        9999,
-    ]
+// The kept version of a line.
+pub fn version(c: Changes, place: &[u8]) -> u32 {
+    case::setting(c, 4, bytes::u32_at(place, 0))
 }
 
-// The settings of a line.
-pub fn settings(f: [u32; 16], place: &[u8]) -> [u32; 12] {
-    line::changed(usual(2 - f[0] % 2, place), f)
+// A mark of what is kept.
+fn mark(c: Changes, which: u32, place: &[u8], at: usize) -> u8 {
+    (case::setting(c, which, bytes::byte_at(place, at) as u32) % 256) as u8
 }
 
-// Lays what is kept as the settings of a line have it, and hands back what a step of a kind is made with.
-pub fn prepare(f: [u32; 16], kind: u8, number: u32, place: &mut [u8]) -> Settings {
-    let s = settings(f, place);
-    let marks = [(s[6] % 256) as u8, (s[7] % 256) as u8];
-    bytes::put(place, 0, &bytes::be4(s[4]));
-    bytes::put2(place, user_place::NUMBER, &bytes::be4(s[5]), &marks);
+// Lays what is kept as a line has it: version, number, whether a write is open and signed.
+fn lay(c: Changes, place: &mut [u8]) {
+    let number = case::setting(c, 5, bytes::u32_at(place, user_place::NUMBER));
+    let opened = mark(c, 6, place, user_place::OPENED);
+    let signed = mark(c, 7, place, user_place::SIGNED);
+    let version = bytes::be4(version(c, place));
+    bytes::put(place, 0, &version);
+    bytes::put2(
+        place,
+        user_place::NUMBER,
+        &bytes::be4(number),
+        &[opened, signed],
+    );
+}
+
+// What a step of a kind is made with.
+fn settings(c: Case, kind: u8, number: u32) -> Settings {
+    let k = c.changes;
     Settings {
-        servers: s[1],
-        own: s[2],
+        servers: case::setting(k, 1, 4),
+        own: case::setting(k, 2, 2 - c.place % 2),
         kind,
         number,
-        users: s[3],
-        tree: s[9],
-        request: s[8],
-        entry: s[10],
+        users: case::setting(k, 3, 2 * key::PUBLIC as u32),
+        tree: case::setting(k, 9, key::TREE as u32),
+        request: case::setting(k, 8, user_step::LONGEST_REQUEST as u32),
+        entry: case::setting(k, 10, user_step::LONGEST_ENTRY as u32),
     }
 }
 
-// The start of an Update, of a Write of an entry, of a Read or of a give-up, or an answer taken in, on a copy of the place.
-pub fn step(f: [u32; 16], kind: u8, number: u32, input: &[u8], work: &mut [u8]) {
-    let s = prepare(f, kind, number, work);
-    let mut place = [0u8; 10240];
-    user_place::load(work, 0, &mut place);
-    user_place::step(s, work::keys(work), input, &mut place);
-    bytes::put(work, 0, &place);
+// Lays what is kept as a line has it, and hands back what a step of a kind is made with.
+pub fn prepare(c: Case, kind: u8, number: u32, place: &mut [u8]) -> Settings {
+    lay(c.changes, place);
+    settings(c, kind, number)
+}
+
+// The start of an Update, of a Write of an entry, of a Read or of a give-up, or an answer taken in.
+pub fn step(c: Case, kind: u8, number: u32, input: &[u8], work: &mut [u8]) {
+    let s = prepare(c, kind, number, work);
+    user_place::step(s, 1, work::KEYS, input, work);
 }

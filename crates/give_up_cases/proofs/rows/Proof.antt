@@ -6,16 +6,19 @@ use Rattle.give_up_cases.proofs.rows.Statement.{statement}
 use Rattle.give_up_cases.proofs.rows.Tie as tie
 
 abbrev Inv-loop : tie.InvT-loop
-Inv-loop text keys world₀ at₀ world at = 0 ≤ at
+Inv-loop text world₀ at₀ world at = 0 ≤ at
 
 abbrev μ-loop : tie.MeasureT-loop
-μ-loop text keys world₀ at₀ world at = length text - at
+μ-loop text world₀ at₀ world at = length text - at
 
 memory-requires : tie.Need-memory-requires Inv-loop μ-loop
 memory-requires c κs = search needs
 
 slice-aggregate-world : tie.Need-slice-aggregate-world Inv-loop μ-loop
 slice-aggregate-world c = search needs
+
+lay-keys-requires : tie.Need-lay-keys-requires Inv-loop μ-loop
+lay-keys-requires c κs = search needs
 
 loop-holds : tie.Need-loop-holds Inv-loop μ-loop
 loop-holds c = search needs
@@ -55,6 +58,7 @@ rows-spec =
     μ-loop
     memory-requires
     slice-aggregate-world
+    lay-keys-requires
     loop-holds
     from-requires
     find-requires

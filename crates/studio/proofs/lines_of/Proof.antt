@@ -6,10 +6,10 @@ use Rattle.studio.proofs.lines_of.Statement.{statement}
 use Rattle.studio.proofs.lines_of.Tie as tie
 
 abbrev Inv-loop : tie.InvT-loop
-Inv-loop text world₀ group₀ number₀ at₀ world group number at = number ≤ at
+Inv-loop text world₀ number₀ at₀ world number at = number ≤ at
 
 abbrev μ-loop : tie.MeasureT-loop
-μ-loop text world₀ group₀ number₀ at₀ world group number at = length text - at
+μ-loop text world₀ number₀ at₀ world number at = length text - at
 
 zeros-requires : tie.Need-zeros-requires Inv-loop μ-loop
 zeros-requires c κs = search needs
@@ -20,8 +20,8 @@ slice-aggregate-world c = search needs
 make-keys-requires : tie.Need-make-keys-requires Inv-loop μ-loop
 make-keys-requires c κs = search needs
 
-fresh-requires : tie.Need-fresh-requires Inv-loop μ-loop
-fresh-requires c κs = search needs
+set-servers-requires : tie.Need-set-servers-requires Inv-loop μ-loop
+set-servers-requires c κs = search needs
 
 loop-holds : tie.Need-loop-holds Inv-loop μ-loop
 loop-holds c = search needs
@@ -68,7 +68,7 @@ lines-of-spec =
     zeros-requires
     slice-aggregate-world
     make-keys-requires
-    fresh-requires
+    set-servers-requires
     loop-holds
     from-requires
     line-length-requires

@@ -1,5 +1,5 @@
 use borrow.Author.Tests.{eq-eqb, ne-eqb}
-use Rattle.exchange.specs.UserStep.{lastStart}
+use Rattle.exchange.specs.UserPlace.{lastStart}
 use borrow.Author.Needs.{needs}
 use Rattle.exchange.proofs.user_place.last_start.Statement.{statement}
 use Rattle.exchange.proofs.user_place.last_start.Tie as tie

@@ -1,4 +1,4 @@
-use Rattle.exchange.specs.UserStep.{settledOn}
+use Rattle.exchange.specs.UserPlace.{settledOn}
 use borrow.Author.Needs.{needs}
 use Rattle.exchange.proofs.user_place.settled.Statement.{statement}
 use Rattle.exchange.proofs.user_place.settled.Tie as tie

@@ -60,7 +60,7 @@ returns c =
     let public-key-1 = c8 .before .before .before .before .before .public-key .ensures .1 in
     let before2-0 = c8 .before .before .before2 .ensures .0 in
     let the-put = c8 .put .ensures in
-    let tree-at = c .before .before .before .before .tree-at .ensures in
+    let tree-at = c .before .before .before .before .tree-at .ensures .0 in
     let put2 = c .before .before .put2 .ensures in
     rw (put2, tree-at, the-put, before2-0, public-key-1, generate-1, blank-key, blank-tree, ots-three, lms-six)
 

@@ -14,7 +14,7 @@ add-result c = search needs
 
 returns : tie.Need-returns
 unfolding treeAt
-returns c = rw (c .before2 .ensures .0)
+returns c = (rw (c .before2 .ensures .0), search needs)
 
 pub tree-at-spec : {M : Type 1} → statement M
 tree-at-spec = tie.close (tie.spec before-requires mul-result add-result returns)

@@ -7,10 +7,10 @@ use Rattle.user_cases.proofs.row.answers.Statement.{statement}
 use Rattle.user_cases.proofs.row.answers.Tie as tie
 
 abbrev Inv-loop : tie.InvT-loop
-Inv-loop f most work₀ taken₀ work taken = (taken ≤ most) × (length work ≡ length work₀)
+Inv-loop c most work₀ taken₀ work taken = (taken ≤ most) × (length work ≡ length work₀)
 
 abbrev μ-loop : tie.MeasureT-loop
-μ-loop f most work₀ taken₀ work taken = most - taken
+μ-loop c most work₀ taken₀ work taken = most - taken
 
 loop-holds : tie.Need-loop-holds Inv-loop μ-loop
 loop-holds c = search needs
