@@ -7,10 +7,10 @@ use crate::show;
 use firing::entry;
 use programs::line;
 use programs::print;
-use state_files::arguments::Settings;
+use state_files::arguments::LogArguments;
 
 // Reads the whole view and prints its board, or the first refusal of a read.
-pub fn draw(g: Settings, file: i32, memory: &mut [u8]) {
+pub fn draw(g: LogArguments, file: i32, memory: &mut [u8]) {
     let v = show::version(memory);
     if 4096 < v {
         print::text(b"the board is drawn for at most 4096 entries\n");
@@ -33,7 +33,7 @@ pub fn draw(g: Settings, file: i32, memory: &mut [u8]) {
 const REFUSED: u32 = 4294967295;
 
 // Reads an entry and answers its target, 0 for an insertion. A read that is refused is printed.
-fn read_target(g: Settings, file: i32, position: u32, memory: &mut [u8]) -> u32 {
+fn read_target(g: LogArguments, file: i32, position: u32, memory: &mut [u8]) -> u32 {
     let asked = command::read(g, file, position, memory);
     if asked.code != 0 {
         show::outcome(asked, memory);
@@ -43,7 +43,13 @@ fn read_target(g: Settings, file: i32, position: u32, memory: &mut [u8]) -> u32 
 }
 
 // Reads the first n entries and lays their targets into a list, 0 for an insertion. A read that is refused is printed, and ends it.
-fn read_targets(g: Settings, file: i32, n: usize, memory: &mut [u8], targets: &mut [u32]) -> bool
+fn read_targets(
+    g: LogArguments,
+    file: i32,
+    n: usize,
+    memory: &mut [u8],
+    targets: &mut [u32],
+) -> bool
     requires { ⌜ (n ≤ 4096) × (length (now targets) ≡ 4096) ⌝ }
 {
     let mut k: usize = 0;
@@ -60,7 +66,7 @@ fn read_targets(g: Settings, file: i32, n: usize, memory: &mut [u8], targets: &m
 }
 
 // Reads and prints the entry of a position, where its mark is 1. Whether the read was refused.
-fn print_marked(g: Settings, file: i32, mark: u32, position: u32, memory: &mut [u8]) -> bool {
+fn print_marked(g: LogArguments, file: i32, mark: u32, position: u32, memory: &mut [u8]) -> bool {
     if mark != 1 {
         return false;
     }
@@ -68,7 +74,7 @@ fn print_marked(g: Settings, file: i32, mark: u32, position: u32, memory: &mut [
 }
 
 // Prints the entries among the first n that are marked.
-fn print_standing(g: Settings, file: i32, n: usize, memory: &mut [u8], standing: &[u32])
+fn print_standing(g: LogArguments, file: i32, n: usize, memory: &mut [u8], standing: &[u32])
     requires { ⌜ (n ≤ 4096) × (length (now standing) ≡ 4096) ⌝ }
 {
     let mut k: usize = 0;

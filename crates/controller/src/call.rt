@@ -1,11 +1,11 @@
 // A whole call: each request is sent once the user's state is saved, until the call has ended or an answer is refused.
 use crate::links;
 use crate::step;
-use crate::step::Step;
-use c_layout::using::Asked;
+use crate::step::Action;
+use c_layout::user_start::Asked;
 use exchange::user_step;
 use sha256::bytes;
-use state_files::arguments::Settings;
+use state_files::arguments::LogArguments;
 use state_files::user_file;
 
 // What a call gives beside the codes of the log: the state could not be saved; a server gave no answer.
@@ -73,7 +73,7 @@ fn ask(asked: Asked, memory: &mut [u8], answer: &mut [u8]) -> usize {
 }
 
 // Sends the request that a step handed out, and takes in the answer.
-fn exchange(g: Settings, file: i32, asked: Asked, memory: &mut [u8]) -> Asked {
+fn exchange(g: LogArguments, file: i32, asked: Asked, memory: &mut [u8]) -> Asked {
     if !save(file, memory) {
         return ended(NOT_SAVED, 0);
     }
@@ -83,7 +83,7 @@ fn exchange(g: Settings, file: i32, asked: Asked, memory: &mut [u8]) -> Asked {
     if n == links::NONE {
         return ended(NO_ANSWER, asked.server);
     }
-    let taken = Step {
+    let taken = Action {
         kind: 0,
         position: 0,
     };
@@ -91,7 +91,7 @@ fn exchange(g: Settings, file: i32, asked: Asked, memory: &mut [u8]) -> Asked {
 }
 
 // A call from its start to its end: the input is the entry of a Write. No call takes more than 128 answers.
-pub fn run(g: Settings, file: i32, start: Step, input: &[u8], memory: &mut [u8]) -> Asked {
+pub fn run(g: LogArguments, file: i32, start: Action, input: &[u8], memory: &mut [u8]) -> Asked {
     let mut asked = step::run(g, start, input, memory);
     let mut left: u8 = 128;
     while left > 0 {

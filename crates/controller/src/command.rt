@@ -3,19 +3,19 @@ use crate::board;
 use crate::call;
 use crate::show;
 use crate::step;
-use crate::step::Step;
-use c_layout::using;
-use c_layout::using::Asked;
+use crate::step::Action;
+use c_layout::user_start;
+use c_layout::user_start::Asked;
 use exchange::user_step;
 use programs::print;
 use sha256::bytes;
 use state_files::arguments;
-use state_files::arguments::Settings;
+use state_files::arguments::LogArguments;
 use state_files::user_file;
 
 // A user's Write of an entry, or a call of another kind that takes none: an Update, or a give-up, which the state says before it is sent.
-fn call_and_show(g: Settings, file: i32, kind: u8, e: &[u8], memory: &mut [u8]) {
-    let start = Step { kind, position: 0 };
+fn call_and_show(g: LogArguments, file: i32, kind: u8, e: &[u8], memory: &mut [u8]) {
+    let start = Action { kind, position: 0 };
     let asked = call::run(g, file, start, e, memory);
     show::outcome(asked, memory);
     show::open_write(memory);
@@ -30,13 +30,13 @@ fn note_entry(e: &[u8], memory: &mut [u8]) {
 }
 
 // A user's Write of an entry. A write of the same entry that is open is resumed.
-fn write(g: Settings, file: i32, e: &[u8], memory: &mut [u8]) {
+fn write(g: LogArguments, file: i32, e: &[u8], memory: &mut [u8]) {
     note_entry(e, memory);
     call_and_show(g, file, 2, e, memory);
 }
 
 // Writes the text of argument 8.
-fn write_text(g: Settings, file: i32, memory: &mut [u8]) {
+fn write_text(g: LogArguments, file: i32, memory: &mut [u8]) {
     let mut room = [0u8; 2048];
     let text: &mut [u8] = &mut room;
     let n = os::arg(8, text);
@@ -51,15 +51,15 @@ fn write_text(g: Settings, file: i32, memory: &mut [u8]) {
 }
 
 // Strikes the position of argument 8.
-fn strike(g: Settings, file: i32, memory: &mut [u8]) {
+fn strike(g: LogArguments, file: i32, memory: &mut [u8]) {
     let p = bytes::be4(arguments::number(8));
     let e = [2, p[0], p[1], p[2], p[3]];
     write(g, file, &e, memory);
 }
 
 // A user's Read.
-pub fn read(g: Settings, file: i32, position: u32, memory: &mut [u8]) -> Asked {
-    let start = Step { kind: 3, position };
+pub fn read(g: LogArguments, file: i32, position: u32, memory: &mut [u8]) -> Asked {
+    let start = Action { kind: 3, position };
     call::run(g, file, start, b"", memory)
 }
 
@@ -69,7 +69,7 @@ pub fn entry_of(asked: Asked, memory: &[u8]) -> &[u8] {
 }
 
 // Reads a position and prints it, or the refusal. Whether it was refused.
-pub fn read_and_show(g: Settings, file: i32, position: u32, memory: &mut [u8]) -> bool {
+pub fn read_and_show(g: LogArguments, file: i32, position: u32, memory: &mut [u8]) -> bool {
     let asked = read(g, file, position, memory);
     if asked.code == 0 {
         show::found(position, asked.author, entry_of(asked, memory));
@@ -80,11 +80,11 @@ pub fn read_and_show(g: Settings, file: i32, position: u32, memory: &mut [u8]) -
 }
 
 // Whether the own operation of argument 8 is settled.
-fn settled(g: Settings, memory: &[u8]) {
+fn settled(g: LogArguments, memory: &[u8]) {
     let mut kept = [0u8; 46];
     user_step::load(memory, user_file::KEPT, &mut kept);
     let log = g.log;
-    let s = using::settled(
+    let s = user_start::settled(
         g.servers,
         g.own,
         &log,
@@ -96,7 +96,7 @@ fn settled(g: Settings, memory: &[u8]) {
 }
 
 // Runs the command of argument 7.
-pub fn run(g: Settings, file: i32, memory: &mut [u8]) {
+pub fn run(g: LogArguments, file: i32, memory: &mut [u8]) {
     if arguments::is(7, b"update") {
         call_and_show(g, file, 1, b"", memory);
         return;
@@ -113,7 +113,7 @@ pub fn run(g: Settings, file: i32, memory: &mut [u8]) {
 }
 
 // Runs one of the commands that are left.
-fn run_other(g: Settings, file: i32, memory: &mut [u8]) {
+fn run_other(g: LogArguments, file: i32, memory: &mut [u8]) {
     if arguments::is(7, b"strike") {
         strike(g, file, memory);
         return;

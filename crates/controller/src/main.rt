@@ -14,7 +14,7 @@ ghost use lib.ListN.{length};
 use programs::print;
 use sha256::bytes;
 use state_files::arguments;
-use state_files::arguments::Settings;
+use state_files::arguments::LogArguments;
 use state_files::file;
 use state_files::lock;
 use state_files::report;
@@ -93,7 +93,7 @@ fn make_key(folder: &[u8]) {
 
 // Runs the command with the key and the state of a folder. What a killed process left is first brought to the device, since requests
 // speak of it.
-fn run(g: Settings, folder: &[u8], users: &[u8]) {
+fn run(g: LogArguments, folder: &[u8], users: &[u8]) {
     let mut space = key::memory();
     let keys: &mut [u8] = &mut space;
     if !key::load(folder, keys) {
@@ -113,7 +113,7 @@ fn run(g: Settings, folder: &[u8], users: &[u8]) {
 }
 
 // Runs the command on an open state.
-fn run_state(g: Settings, fd: i32, users: &[u8], key: &[u8]) {
+fn run_state(g: LogArguments, fd: i32, users: &[u8], key: &[u8]) {
     let mut space = memory();
     let m: &mut [u8] = &mut space;
     if !load(g, fd, users, m) {
@@ -137,7 +137,7 @@ fn load_state(fd: i32, memory: &mut [u8]) -> bool {
 }
 
 // Loads the state that counts. Whether it is there and of this log.
-fn load(g: Settings, fd: i32, users: &[u8], memory: &mut [u8]) -> bool {
+fn load(g: LogArguments, fd: i32, users: &[u8], memory: &mut [u8]) -> bool {
     if !load_state(fd, memory) {
         return false;
     }

@@ -2,11 +2,11 @@
 // (`user_file`), the state as it was saved last, the call, its hashes, the held entry, the request, the entry that is read and the links;
 // then how many bytes the list of users has, the user's key (`key`) and the list.
 use crate::key;
-use c_layout::using::Asked;
+use c_layout::user_start::Asked;
 use exchange::user_step;
 use exchange::user_step::Layout;
 use sha256::bytes;
-use state_files::arguments::Settings;
+use state_files::arguments::LogArguments;
 use state_files::user_file;
 
 // The memory: the state, the state as it was saved last, a call's, the links, the key and the users.
@@ -31,7 +31,7 @@ const KEY: usize = 14854;
 const USERS: usize = 80470;
 
 // What a step does: 0 takes in an answer, 1 starts an Update, 2 a Write, 3 a Read of the entry at a position, 4 a give-up.
-pub struct Step {
+pub struct Action {
     pub kind: u8,
     pub position: u32,
 }
@@ -75,10 +75,10 @@ fn randomizer(kind: u8, entry: &[u8], memory: &[u8]) -> [u8; 32] {
 }
 
 // What a step is made with. The input is the entry of a Write, or the answer that is taken in.
-fn made_with(g: Settings, step: Step, input: &[u8], memory: &[u8]) -> user_step::Step {
+fn made_with(g: LogArguments, step: Action, input: &[u8], memory: &[u8]) -> user_step::StepInput {
     let key = bytes::from(memory, KEY);
     let log = g.log;
-    user_step::Step {
+    user_step::StepInput {
         servers: g.servers,
         own: g.own,
         log,
@@ -95,6 +95,6 @@ fn made_with(g: Settings, step: Step, input: &[u8], memory: &[u8]) -> user_step:
 }
 
 // A step of a call on a user's state.
-pub fn run(g: Settings, step: Step, input: &[u8], memory: &mut [u8]) -> Asked {
+pub fn run(g: LogArguments, step: Action, input: &[u8], memory: &mut [u8]) -> Asked {
     user_step::on(made_with(g, step, input, memory), layout(), input, memory)
 }

@@ -7,7 +7,7 @@ ghost use mathlib.Core.Path.{_≡_};
 ghost use lib.ListN.{length};
 use sha256::bytes;
 use state_files::arguments;
-use state_files::arguments::Settings;
+use state_files::arguments::LogArguments;
 use state_files::file;
 use state_files::lock;
 use state_files::report;
@@ -51,7 +51,7 @@ fn run(new: bool, at: usize) {
 }
 
 // Serves the log of a folder while its lock is held.
-fn serve_locked(d: Settings, new: bool, folder: &[u8], users: &[u8]) {
+fn serve_locked(d: LogArguments, new: bool, folder: &[u8], users: &[u8]) {
     if !lock::take(folder) {
         return;
     }
@@ -64,7 +64,7 @@ fn serve_locked(d: Settings, new: bool, folder: &[u8], users: &[u8]) {
 }
 
 // Serves the log of a folder. What a killed process left is first brought to the device, since answers speak of it.
-fn serve_folder(d: Settings, mark: [u8; 32], folder: &[u8], users: &[u8]) {
+fn serve_folder(d: LogArguments, mark: [u8; 32], folder: &[u8], users: &[u8]) {
     let fd = file::open_update(folder, b"log");
     if fd < 0 {
         os::fail(b"the folder has no log that can be opened; `new` begins one");

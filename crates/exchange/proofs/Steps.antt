@@ -8,9 +8,9 @@ use lib.Seq.{take-append-seam}
 use Rattle.lines.specs.Memory.{zeros}
 use Rattle.sha256.specs.Bytes.{be}
 use Rattle.sha256.proofs.Laws.{be-mod}
-use Rattle.c_layout.specs.declared.using.Asked.{Asked}
+use Rattle.c_layout.specs.declared.user_start.Asked.{Asked}
 use Rattle.c_layout.specs.User.{UserLent, userLent, UserOutcome, writeBegun, giveUpBegun, Begins, WriteBegins, GiveUpBegins, UserYields}
-use Rattle.exchange.specs.declared.user_step.Step.{Step}
+use Rattle.exchange.specs.declared.user_step.StepInput.{StepInput}
 use Rattle.exchange.specs.declared.user_step.Layout.{Layout}
 use Rattle.exchange.specs.UserStep.{loaded, usersIn, treeIn, groupOf, begun, giveUpLent, writeLent, stepLent, lentIn, laid3, callLaid, CallYields, allLaid, StepYields}
 use Rattle.exchange.specs.UserPlace.{stepBytes}
@@ -38,7 +38,7 @@ pub began : (m : UserLent) (o : UserOutcome) (kept held : List ℕ) (r : Asked) 
 unfolding begun
 began m o kept held r call request e = rw (e .0, e .1 .0, e .1 .1) (refl, refl)
 
-module _ (s : Step) (users : List ℕ) (m : UserLent) (r : Asked) (call request : List ℕ) where
+module _ (s : StepInput) (users : List ℕ) (m : UserLent) (r : Asked) (call request : List ℕ) where
   pub write-began : (tree entry held : List ℕ)
       → WriteBegins (writeBegun (groupOf s users) tree entry (s .randomizer) (m .kept) (m .path) (m .call) (m .held) (m .request)) r call held request
       → UserYields (writeLent s users tree entry m) r (userLent (m .kept) (m .path) (m .signature) call (m .hashes) held request (m .entry))
@@ -65,7 +65,7 @@ take-zeros n k h =
     rw f (ap (λ (x : List ℕ). take n x) (sym r) ∙ g)
 
 -- what is lent, each part as it is loaded
-pub lent-loaded : (s : Step) (at : Layout) (input kept path signature world users tree call hashes held request entry : List ℕ)
+pub lent-loaded : (s : StepInput) (at : Layout) (input kept path signature world users tree call hashes held request entry : List ℕ)
     → users ≡ usersIn s at world
     → tree ≡ treeIn s at world
     → call ≡ loaded world (at .call) (zeros 82)

@@ -8,11 +8,11 @@ use Rattle.lines.specs.Memory.{zeros}
 use Rattle.sha256.specs.Bytes.{be, numberAt, written}
 use Rattle.tree.specs.Setup.{settings}
 use Rattle.programs.specs.Key.{placeAt, treeAt}
-use Rattle.c_layout.specs.declared.using.Asked.{Asked}
-use Rattle.c_layout.specs.declared.using.SettledAnswer.{SettledAnswer}
+use Rattle.c_layout.specs.declared.user_start.Asked.{Asked}
+use Rattle.c_layout.specs.declared.user_start.SettledAnswer.{SettledAnswer}
 use Rattle.c_layout.specs.User.{settledAnswer}
-use Rattle.exchange.specs.declared.user_place.Settings.{Settings}
-use Rattle.exchange.specs.declared.user_step.Step.{Step}
+use Rattle.exchange.specs.declared.user_place.PlaceStep.{PlaceStep}
+use Rattle.exchange.specs.declared.user_step.StepInput.{StepInput}
 use Rattle.exchange.specs.declared.user_step.Layout.{Layout}
 use Rattle.exchange.specs.LogName.{logName}
 use Rattle.exchange.specs.UserStep.{loaded, allLaid, stepMade}
@@ -100,7 +100,7 @@ placeLayout user keys name =
     }
 
 -- What a step is made with: the own key has the own number as one byte, 16 times as its identifier and 32 times as its seed.
-unfoldable pub madeWith : Settings → Step
+unfoldable pub madeWith : PlaceStep → StepInput
 madeWith s =
     let name = s .own % 256 in
     record {
@@ -119,7 +119,7 @@ madeWith s =
     }
 
 -- The slice after a step.
-unfoldable pub stepOn : Settings → ℕ → ℕ → List ℕ → List ℕ → List ℕ
+unfoldable pub stepOn : PlaceStep → ℕ → ℕ → List ℕ → List ℕ → List ℕ
 stepOn s user keys input world =
     let at = placeLayout user keys (s .own % 256) in
     let o = stepMade (madeWith s) at input world in
@@ -129,6 +129,6 @@ stepOn s user keys input world =
 unfoldable pub keptIn : List ℕ → List ℕ
 keptIn place = loaded place 0 (zeros 46)
 
-unfoldable pub settledOn : Settings → List ℕ → List ℕ → SettledAnswer
+unfoldable pub settledOn : PlaceStep → List ℕ → List ℕ → SettledAnswer
 settledOn s keys place =
     settledAnswer (settings (s .servers) (s .own) logName (take (s .users) keys)) (keptIn place) (s .number)

@@ -3,7 +3,7 @@
 ghost use Prim.Native.Nat.{_≤_};
 use crate::server_place;
 use crate::user_place;
-use crate::user_place::Settings;
+use crate::user_place::PlaceStep;
 use crate::user_step;
 use programs::key;
 use programs::place;
@@ -55,8 +55,8 @@ pub fn keys(r: Run, world: &[u8]) -> &[u8] {
 }
 
 // What a step of a kind is made with.
-pub fn settings(r: Run, own: u8, kind: u8, number: u32) -> Settings {
-    Settings {
+pub fn settings(r: Run, own: u8, kind: u8, number: u32) -> PlaceStep {
+    PlaceStep {
         servers: r.servers as u32,
         own: own as u32,
         kind,

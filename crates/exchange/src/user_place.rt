@@ -6,10 +6,10 @@ ghost use Rattle.exchange.specs.UserPlace.{requestOf, entryOf, hasEnded,
 ghost use Rattle.exchange.specs.UserPlace.{stepBytes, stepLaid, stepOn, settledOn};
 use crate::user_step;
 use crate::user_step::Layout;
-use crate::user_step::Step;
-use c_layout::using;
-use c_layout::using::Asked;
-use c_layout::using::SettledAnswer;
+use crate::user_step::StepInput;
+use c_layout::user_start;
+use c_layout::user_start::Asked;
+use c_layout::user_start::SettledAnswer;
 use programs::key;
 use programs::place;
 use sha256::bytes;
@@ -66,7 +66,7 @@ pub const ENTRY: usize = 8174;
 // What a step is made with: N, the own number, the kind (1 starts an Update, 2 a Write, 3 a Read, 4 a give-up; 0 takes in an answer), a
 // number (of a Write the byte that its randomizer repeats, of a Read the position), and how many bytes of the user list, the key tree, the
 // request buffer and the entry buffer are lent.
-pub struct Settings {
+pub struct PlaceStep {
     pub servers: u32,
     pub own: u32,
     pub kind: u8,
@@ -187,11 +187,11 @@ fn layout(user: u8, keys: u32, name: u8) -> Layout
 }
 
 // What a step is made with: the log of the programs, and a key whose identifier and seed repeat the own number.
-fn made_with(s: Settings) -> Step
+fn made_with(s: PlaceStep) -> StepInput
     ensures { λ r. ⌜ r ≡ madeWith s ⌝ }
 {
     let name = (s.own % 256) as u8;
-    Step {
+    StepInput {
         servers: s.servers,
         own: s.own,
         log: key::LOG,
@@ -209,7 +209,7 @@ fn made_with(s: Settings) -> Step
 
 // A step on the place of a user, in a slice with the keys from a place on. The input is the entry of a Write, or the answer that is taken
 // in.
-pub fn step(s: Settings, user: u8, keys: u32, input: &[u8], world: &mut [u8])
+pub fn step(s: PlaceStep, user: u8, keys: u32, input: &[u8], world: &mut [u8])
     ensures { λ _. ⌜ now (world .exit) ≡ stepOn s user keys (now (input .entry)) (now (world .entry)) ⌝ }
 {
     let at = layout(user, keys, (s.own % 256) as u8);
@@ -227,11 +227,11 @@ fn kept_of(place: &[u8]) -> [u8; 46]
 }
 
 // Whether the own operation at the settings' number is settled.
-pub fn settled(s: Settings, keys: &[u8], place: &[u8]) -> SettledAnswer
+pub fn settled(s: PlaceStep, keys: &[u8], place: &[u8]) -> SettledAnswer
     ensures { λ r. ⌜ r ≡ settledOn s (now (keys .entry)) (now (place .entry)) ⌝ }
 {
     let log = key::LOG;
     let kept = kept_of(place);
     let users = bytes::front(keys, s.users as usize);
-    using::settled(s.servers, s.own, &log, users, &kept, s.number)
+    user_start::settled(s.servers, s.own, &log, users, &kept, s.number)
 }

@@ -6,16 +6,16 @@ ghost use Prim.Native.Nat.{ℕ};
 ghost use Rattle.c_layout.specs.User.{userLent, UserYields};
 ghost use Rattle.exchange.specs.UserStep.{loaded, startLent, stepLent, usersIn, treeIn, lentIn, laid3, CallYields, StepYields};
 ghost use Rattle.exchange.specs.UserStep.{stepMade};
-use c_layout::taking;
-use c_layout::using;
-use c_layout::using::Asked;
+use c_layout::user_answer;
+use c_layout::user_start;
+use c_layout::user_start::Asked;
 use programs::line;
 use sha256::bytes;
 
 // What a step is made with: N, the own number, the log's name; the own key's identifier and seed, and a Write's randomizer; the kind (1
 // starts an Update, 2 a Write, 3 a Read, 4 a give-up; 0 takes in an answer) and a Read's position; and how many bytes are lent of the user
 // list, the key tree, the request buffer and the entry buffer.
-pub struct Step {
+pub struct StepInput {
     pub servers: u32,
     pub own: u32,
     pub log: [u8; 16],
@@ -59,7 +59,7 @@ pub fn load(s: &[u8], at: usize, d: &mut [u8])
 
 // The start of a call. A give-up's changes what is kept, a Write's what is held.
 fn start(
-    s: Step,
+    s: StepInput,
     users: &[u8],
     tree: &[u8],
     input: &[u8],
@@ -79,17 +79,17 @@ fn start(
     let own = s.own;
     let log = s.log;
     if s.kind == 1 {
-        return using::update_start(n, own, &log, users, kept, call, request);
+        return user_start::update_start(n, own, &log, users, kept, call, request);
     }
     if s.kind == 3 {
         let p = s.position;
-        return using::read_start(n, own, &log, users, p, kept, call, request, entry);
+        return user_start::read_start(n, own, &log, users, p, kept, call, request, entry);
     }
     if s.kind == 4 {
-        return using::give_up_start(n, own, &log, users, kept, path, call, request);
+        return user_start::give_up_start(n, own, &log, users, kept, path, call, request);
     }
     let random = s.randomizer;
-    using::write_start(
+    user_start::write_start(
         n,
         own,
         &log,
@@ -107,7 +107,7 @@ fn start(
 
 // The step with everything lent.
 fn lent(
-    s: Step,
+    s: StepInput,
     users: &[u8],
     tree: &[u8],
     input: &[u8],
@@ -142,7 +142,7 @@ fn lent(
     let log = s.log;
     let id = s.id;
     let seed = s.seed;
-    taking::take(
+    user_answer::take(
         s.servers,
         s.own,
         &log,
@@ -163,13 +163,13 @@ fn lent(
 }
 
 // The user list and the key tree that are lent.
-fn users_of(s: Step, at: Layout, world: &[u8]) -> &[u8]
+fn users_of(s: StepInput, at: Layout, world: &[u8]) -> &[u8]
     ensures { λ r. ⌜ now r ≡ usersIn s at (now (world .entry)) ⌝ }
 {
     bytes::front(bytes::from(world, at.users), s.users as usize)
 }
 
-fn tree_of(s: Step, at: Layout, world: &[u8]) -> &[u8]
+fn tree_of(s: StepInput, at: Layout, world: &[u8]) -> &[u8]
     ensures { λ r. ⌜ now r ≡ treeIn s at (now (world .entry)) ⌝ }
 {
     bytes::front(bytes::from(world, at.tree), s.tree as usize)
@@ -203,7 +203,7 @@ fn lay_state(
 
 // The step with what is kept lent; the call and its memory are loaded and laid.
 fn on_call(
-    s: Step,
+    s: StepInput,
     at: Layout,
     input: &[u8],
     kept: &mut [u8; 46],
@@ -250,7 +250,7 @@ fn on_call(
 }
 
 // A step of a user whose bytes stand in a slice. The input is the entry of a Write, or the answer that is taken in.
-pub fn on(s: Step, at: Layout, input: &[u8], world: &mut [u8]) -> Asked
+pub fn on(s: StepInput, at: Layout, input: &[u8], world: &mut [u8]) -> Asked
     ensures { λ r. ⌜ StepYields at (now (world .entry)) (stepMade s at (now (input .entry)) (now (world .entry))) r (now (world .exit)) ⌝ }
 {
     let mut kept = [0u8; 46];

@@ -52,10 +52,10 @@ fn sign_and_check(name: &[u8], k: Secrets, number: u32, text: &[u8], nodes: &[u8
     let id = k.id;
     let code = lms::public_key(6, 3, id, nodes, &mut key);
     report::code(name, b" public key: ", code);
-    report::figures(name, b" public key ", &key);
+    report::in_hexadecimal(name, b" public key ", &key);
     let mut signature = [0u8; 2508];
     sign(name, b" sign: ", k, number, text, nodes, &mut signature);
-    report::figures(name, b" signature ", &signature);
+    report::in_hexadecimal(name, b" signature ", &signature);
     report::answer(name, lms::check(6, 3, &key, text, &signature));
 }
 

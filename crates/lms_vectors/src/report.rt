@@ -15,8 +15,8 @@ pub fn code(name: &[u8], what: &[u8], n: u32) {
     text(b"\n");
 }
 
-// A name and bytes in hexadecimal figures to a line.
-pub fn figures(name: &[u8], what: &[u8], s: &[u8]) {
+// A name and bytes in hexadecimal digits to a line.
+pub fn in_hexadecimal(name: &[u8], what: &[u8], s: &[u8]) {
     text(name);
     text(what);
     let mut i = 0;

@@ -2,7 +2,7 @@
 use libc::STDOUT_FILENO;
 use programs::print;
 
-// All bytes of s as two figures each, after what they are, to the line's end.
+// All bytes of s as two hexadecimal digits each, after what they are, to the line's end.
 pub fn line(what: &[u8], s: &[u8]) {
     print::text(what);
     let mut at: usize = 0;

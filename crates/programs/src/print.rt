@@ -63,8 +63,8 @@ fn is_of(n: u32, line: &[u8]) -> bool {
     true
 }
 
-// The first 8 bytes of a digest, after what it is.
-pub fn figures(what: &[u8], d: [u8; 32]) {
+// The first 8 bytes of a digest, in hexadecimal, after what it is.
+pub fn digest_start(what: &[u8], d: [u8; 32]) {
     text(what);
     io::print_hex(STDOUT_FILENO, bytes::u32_at(&d, 0) as u64, 8);
     io::print_hex(STDOUT_FILENO, bytes::u32_at(&d, 4) as u64, 8);

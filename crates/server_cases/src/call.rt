@@ -74,11 +74,11 @@ fn report(out: Served, place: &[u8], answer: &[u8]) {
     report_earlier(place);
     print::number(b" used ", out.used as usize);
     print::number(b" answered ", out.answer as usize);
-    print::figures(
+    print::digest_start(
         b" store ",
         sha256::hash(bytes::from(place, server_place::STORE)),
     );
-    print::figures(b" answer ", sha256::hash(answer));
+    print::digest_start(b" answer ", sha256::hash(answer));
     print::text(b"\n");
 }
 
@@ -88,7 +88,7 @@ fn report_head(what: &[u8], head: &[u8]) {
     let author = bytes::u16_at(head, server_place::AUTHOR);
     let position = bytes::u32_at(head, 0);
     print::filled(what, &[position, level as u32, author as u32]);
-    print::figures(
+    print::digest_start(
         b"",
         digest::piece(bytes::from(head, server_place::DIGEST), 0),
     );

@@ -5,7 +5,7 @@ use Prim.Native.Nat.{ℕ, _%_}
 use lib.Dec.{leb, eqb}
 use lib.ListN.{length}
 use Rattle.lines.specs.Text.{digitsAt}
-use Rattle.state_files.specs.declared.arguments.Settings.{Settings}
+use Rattle.state_files.specs.declared.arguments.LogArguments.{LogArguments}
 
 -- The number that a word is, at most 9,999,999; 0 where it is not digits alone.
 unfoldable pub numberOf : List ℕ → ℕ
@@ -19,6 +19,6 @@ unfoldable pub isUserList : ℕ → Bool
 isUserList n = isFrom 1 3584 n && eqb (n % 56) 0
 
 -- 2 to 16 servers, an own number from 1 to `most`, a log's name that is not empty, and a list of users.
-unfoldable pub settingsFit : Settings → ℕ → List ℕ → Bool
+unfoldable pub settingsFit : LogArguments → ℕ → List ℕ → Bool
 settingsFit s most users =
     isFrom 2 16 (s .servers) && isFrom 1 most (s .own) && leb 1 (s .name) && isUserList (length users)

@@ -6,7 +6,7 @@ use sha256::bytes;
 
 // What a log is set up with: N, the own number, the log's name, filled up with zeros, and the name's length. A number that is misshapen is
 // 0, as is the length of a name that is too long.
-pub struct Settings {
+pub struct LogArguments {
     pub servers: u32,
     pub own: u32,
     pub log: [u8; 16],
@@ -41,10 +41,10 @@ fn number_of(word: &[u8]) -> u32
 }
 
 // N, the own number and the name, in three arguments.
-pub fn read_settings(servers: usize, own: usize, name: usize) -> Settings {
+pub fn read_settings(servers: usize, own: usize, name: usize) -> LogArguments {
     let mut log = [0u8; 16];
     let length = os::arg(name, &mut log);
-    Settings {
+    LogArguments {
         servers: number(servers),
         own: number(own),
         log,
@@ -67,7 +67,7 @@ pub fn load(i: usize, into: &mut [u8]) -> usize {
 }
 
 // Whether the settings are in their ranges, the own number not above `most`: N, the name's length, and the length of the list of users.
-pub fn fit(s: Settings, most: u32, users: &[u8]) -> bool
+pub fn fit(s: LogArguments, most: u32, users: &[u8]) -> bool
     ensures { λ r. ⌜ r ≡ settingsFit s most (now (users .entry)) ⌝ }
 {
     if !is_from(2, 16, s.servers as usize) {

@@ -1,5 +1,5 @@
 // What is printed.
-use c_layout::using::SettledAnswer;
+use c_layout::user_start::SettledAnswer;
 use exchange::run::Run;
 use exchange::user_place;
 use firing::entry;

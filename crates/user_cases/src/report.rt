@@ -15,7 +15,7 @@ fn byte(place: &[u8], at: usize) -> u32 {
 
 // The hash of n bytes of the place, after what they are.
 fn hash(what: &[u8], place: &[u8], at: usize, n: usize) {
-    print::figures(what, sha256::hash(bytes::front(bytes::from(place, at), n)));
+    print::digest_start(what, sha256::hash(bytes::front(bytes::from(place, at), n)));
 }
 
 // The code of the last step and the server's, whether its call has ended, and what is kept but for the digest: of an open write the levels
@@ -49,7 +49,7 @@ pub fn step(place: &[u8]) {
 pub fn state(place: &[u8]) {
     step(place);
     let digest = digest::piece(bytes::from(place, user_place::DIGEST), 0);
-    print::figures(b" digest ", digest);
+    print::digest_start(b" digest ", digest);
     hash(b" path ", place, user_place::PATH, 672);
     hash(b" signature ", place, user_place::SIGNATURE, 2508);
     hash(b" call ", place, user_place::CALL, 82);
@@ -80,7 +80,7 @@ fn found(place: &[u8]) {
 
 // The SHA-256 of the four servers.
 pub fn servers(work: &[u8]) {
-    print::figures(b" servers ", sha256::hash(work::servers(work)));
+    print::digest_start(b" servers ", sha256::hash(work::servers(work)));
 }
 
 // Whether the position that a line says is settled.

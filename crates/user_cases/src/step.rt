@@ -5,7 +5,7 @@ use crate::case::Case;
 use crate::case::Changes;
 use crate::work;
 use exchange::user_place;
-use exchange::user_place::Settings;
+use exchange::user_place::PlaceStep;
 use exchange::user_step;
 use programs::key;
 use sha256::bytes;
@@ -36,9 +36,9 @@ fn lay(c: Changes, place: &mut [u8]) {
 }
 
 // What a step of a kind is made with.
-fn settings(c: Case, kind: u8, number: u32) -> Settings {
+fn settings(c: Case, kind: u8, number: u32) -> PlaceStep {
     let k = c.changes;
-    Settings {
+    PlaceStep {
         servers: case::setting(k, 1, 4),
         own: case::setting(k, 2, 2 - c.place % 2),
         kind,
@@ -51,7 +51,7 @@ fn settings(c: Case, kind: u8, number: u32) -> Settings {
 }
 
 // Lays what is kept as a line has it, and hands back what a step of a kind is made with.
-pub fn prepare(c: Case, kind: u8, number: u32, place: &mut [u8]) -> Settings {
+pub fn prepare(c: Case, kind: u8, number: u32, place: &mut [u8]) -> PlaceStep {
     lay(c.changes, place);
     settings(c, kind, number)
 }

@@ -5,7 +5,7 @@ use Rattle.exchange.proofs.user_step.lent.Statement.{statement}
 use Rattle.exchange.proofs.user_step.lent.Tie as tie
 use Rattle.exchange.proofs.user_step.lent.Reads as reads
 use Rattle.exchange.proofs.user_step.lent.Lts as lts
-use Rattle.c_layout.proofs.taking.take.Reads as take-reads
+use Rattle.c_layout.proofs.user_answer.take.Reads as take-reads
 use Rattle.exchange.proofs.user_step.start.Reads as start-reads
 
 -- src/user_step.rt:117:9

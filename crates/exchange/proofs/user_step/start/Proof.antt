@@ -7,10 +7,10 @@ use Rattle.exchange.proofs.user_step.start.Statement.{statement}
 use Rattle.exchange.proofs.user_step.start.Tie as tie
 use Rattle.exchange.proofs.user_step.start.Reads as reads
 use Rattle.exchange.proofs.user_step.start.Lts as lts
-use Rattle.c_layout.proofs.using.give_up_start.Reads as give-up-start-reads
-use Rattle.c_layout.proofs.using.read_start.Reads as read-start-reads
-use Rattle.c_layout.proofs.using.update_start.Reads as update-start-reads
-use Rattle.c_layout.proofs.using.write_start.Reads as write-start-reads
+use Rattle.c_layout.proofs.user_start.give_up_start.Reads as give-up-start-reads
+use Rattle.c_layout.proofs.user_start.read_start.Reads as read-start-reads
+use Rattle.c_layout.proofs.user_start.update_start.Reads as update-start-reads
+use Rattle.c_layout.proofs.user_start.write_start.Reads as write-start-reads
 
 -- src/user_step.rt:81:9
 update-start-requires : tie.Need-update-start-requires

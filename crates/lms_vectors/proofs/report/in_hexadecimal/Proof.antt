@@ -1,8 +1,8 @@
 use Prim.Native.Nat.{_≤_, _-_}
 use lib.ListN.{length}
 use borrow.Author.Needs.{needs}
-use Rattle.lms_vectors.proofs.report.figures.Statement.{statement}
-use Rattle.lms_vectors.proofs.report.figures.Tie as tie
+use Rattle.lms_vectors.proofs.report.in_hexadecimal.Statement.{statement}
+use Rattle.lms_vectors.proofs.report.in_hexadecimal.Tie as tie
 
 abbrev Inv-loop : tie.InvT-loop
 Inv-loop name what s i₀ t5 i = i ≤ length s
@@ -46,8 +46,8 @@ text-requires-3 c κs = search needs
 returns : tie.Need-returns Inv-loop μ-loop
 returns c = search needs
 
-pub figures-spec : {M : Type 1} → statement M
-figures-spec =
+pub in-hexadecimal-spec : {M : Type 1} → statement M
+in-hexadecimal-spec =
     tie.close
     (tie.spec
     Inv-loop
