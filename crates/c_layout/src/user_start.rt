@@ -2,7 +2,8 @@
 ghost use mathlib.Core.Path.{_≡_};
 ghost use Rattle.tree.specs.Setup.{settings};
 ghost use Rattle.user.specs.Outcome.{nothing};
-ghost use Rattle.c_layout.specs.User.{askedOf, updateBegun, readBegun, writeBegun, giveUpBegun, Begins, WriteBegins, GiveUpBegins, settledAnswer};
+ghost use Rattle.c_layout.specs.User.{askedOf, updateBegun, readBegun, writeBegun, giveUpBegun, Begins, WriteBegins};
+ghost use Rattle.c_layout.specs.User.{GiveUpBegins, settledAnswer};
 use super::marks;
 use super::numbers;
 use super::user_state;

@@ -94,7 +94,7 @@ unfoldable pub serverBytesAfter : ServerOutcome → ServerBytes
 serverBytesAfter o = record { head = o .head; store = o .store; used = o .result .used }
 
 -- Callers begin with zero bytes (include/kozbrax.h): "all zero for a new user", its call's too, and a server's head "all zero at first".
--- Path, signature and store have the contents that a new world leaves free, so what it says of a digest and of a head's author plays no part.
+-- Path, signature and store have the contents that a new world leaves free; what it says of a digest and of a head's author plays no part.
 unfoldable pub newUserBytes : NewWorld → ℕ → UserBytes
 newUserBytes b a =
     let bytes = userLent (replicate 46 0) (b .users a .path) (b .users a .signature) (replicate 82 0) [] [] [] [] in

@@ -86,8 +86,8 @@ fn of_user(code: u32) {
     );
 }
 
-// After 8 and 12, which come from a write or a give-up of another user that was cut. A give-up tells one server after the other, so until it
-// is repeated heads may lie far apart.
+// After 8 and 12, which come from a write or a give-up of another user that was cut. A give-up tells one server after the other, so until
+// it is repeated heads may lie far apart.
 fn others() {
     print::text(
         b"another user's write or give-up goes on or was cut, and nothing is lost: run the command again once it has ended. An ALARM \

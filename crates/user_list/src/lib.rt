@@ -2,7 +2,8 @@
 // follows from a key.
 ghost use mathlib.Core.Path.{_≡_};
 ghost use lib.Dec.{leb};
-ghost use Rattle.user_list.specs.Users.{userKey, isListed, listFits, groupFits, signatureLength, treeLength, signatureCount, leastRequest, leastAnswer};
+ghost use Rattle.user_list.specs.Users.{userKey, isListed, listFits, groupFits, signatureLength, treeLength};
+ghost use Rattle.user_list.specs.Users.{signatureCount, leastRequest, leastAnswer};
 use sha256::bytes;
 use tree::bools;
 
