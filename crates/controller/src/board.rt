@@ -7,10 +7,9 @@ use crate::show;
 use firing::entry;
 use programs::line;
 use programs::print;
-use state_files::arguments::LogArguments;
 
 // Reads the whole view and prints its board, or the first refusal of a read.
-pub fn draw(g: LogArguments, file: i32, memory: &mut [u8]) {
+pub fn draw(memory: &mut [u8]) {
     let v = show::version(memory);
     if 4096 < v {
         print::text(b"the board is drawn for at most 4096 entries\n");
@@ -19,22 +18,22 @@ pub fn draw(g: LogArguments, file: i32, memory: &mut [u8]) {
     let n = line::at_most(v, 4096);
     let mut space = [0u32; 4096];
     let targets: &mut [u32] = &mut space;
-    if read_targets(g, file, n, memory, targets) {
+    if read_targets(n, memory, targets) {
         return;
     }
     let mut marks = [0u32; 4096];
     let standing: &mut [u32] = &mut marks;
     entry_board::board(targets, standing);
     print::filled(b"of # entries these insertions stand:\n", &[v]);
-    print_standing(g, file, n, memory, standing);
+    print_standing(n, memory, standing);
 }
 
 // What stands for a target where a Read was refused.
 const REFUSED: u32 = 4294967295;
 
 // Reads an entry and answers its target, 0 for an insertion. A read that is refused is printed.
-fn read_target(g: LogArguments, file: i32, position: u32, memory: &mut [u8]) -> u32 {
-    let asked = command::read(g, file, position, memory);
+fn read_target(position: u32, memory: &mut [u8]) -> u32 {
+    let asked = command::read(position, memory);
     if asked.code != 0 {
         show::outcome(asked, memory);
         return REFUSED;
@@ -43,19 +42,13 @@ fn read_target(g: LogArguments, file: i32, position: u32, memory: &mut [u8]) -> 
 }
 
 // Reads the first n entries and lays their targets into a list, 0 for an insertion. A read that is refused is printed, and ends it.
-fn read_targets(
-    g: LogArguments,
-    file: i32,
-    n: usize,
-    memory: &mut [u8],
-    targets: &mut [u32],
-) -> bool
+fn read_targets(n: usize, memory: &mut [u8], targets: &mut [u32]) -> bool
     requires { ⌜ (n ≤ 4096) × (length (now targets) ≡ 4096) ⌝ }
 {
     let mut k: usize = 0;
     while k < n {
         let p = (k % 4096) as u32 + 1;
-        let target = read_target(g, file, p, memory);
+        let target = read_target(p, memory);
         if target == REFUSED {
             return true;
         }
@@ -66,21 +59,21 @@ fn read_targets(
 }
 
 // Reads and prints the entry of a position, where its mark is 1. Whether the read was refused.
-fn print_marked(g: LogArguments, file: i32, mark: u32, position: u32, memory: &mut [u8]) -> bool {
+fn print_marked(mark: u32, position: u32, memory: &mut [u8]) -> bool {
     if mark != 1 {
         return false;
     }
-    command::read_and_show(g, file, position, memory)
+    command::read_and_show(position, memory)
 }
 
 // Prints the entries among the first n that are marked.
-fn print_standing(g: LogArguments, file: i32, n: usize, memory: &mut [u8], standing: &[u32])
+fn print_standing(n: usize, memory: &mut [u8], standing: &[u32])
     requires { ⌜ (n ≤ 4096) × (length (now standing) ≡ 4096) ⌝ }
 {
     let mut k: usize = 0;
     while k < n {
         let p = (k % 4096) as u32 + 1;
-        if print_marked(g, file, standing[k], p, memory) {
+        if print_marked(standing[k], p, memory) {
             return;
         }
         k += 1;

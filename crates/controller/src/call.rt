@@ -5,7 +5,6 @@ use crate::step::Action;
 use c_layout::user_start::Asked;
 use exchange::user_step;
 use sha256::bytes;
-use state_files::arguments::LogArguments;
 use state_files::user_file;
 
 // What a call gives beside the codes of the log: the state could not be saved; a server gave no answer.
@@ -33,31 +32,31 @@ fn is_saved(memory: &[u8]) -> bool {
 }
 
 // Saves the user's state where it is not as it was saved last, and answers whether it is on its device.
-pub fn save(file: i32, memory: &mut [u8]) -> bool {
+pub fn save(memory: &mut [u8]) -> bool {
     if is_saved(memory) {
         return true;
     }
-    save_now(file, memory)
+    save_now(memory)
 }
 
 // Where a slot is of version 0.1.0, saves the state to both, so that its programs find none to go on from. Whether the state is on its
 // device. A save that is cut leaves the same state in the other slot.
-pub fn replace_older(file: i32, memory: &mut [u8]) -> bool {
-    if !user_file::has_older(file) {
+pub fn replace_older(memory: &mut [u8]) -> bool {
+    if !user_file::has_older(links::file(memory)) {
         return true;
     }
-    if !save_now(file, memory) {
+    if !save_now(memory) {
         return false;
     }
-    save_now(file, memory)
+    save_now(memory)
 }
 
 // Saves the user's state, and answers whether it is on its device.
-fn save_now(file: i32, memory: &mut [u8]) -> bool {
+fn save_now(memory: &mut [u8]) -> bool {
     let mut room = [0u8; 4324];
     let state: &mut [u8] = &mut room;
     user_step::load(memory, 0, state);
-    let saved = user_file::save(file, state);
+    let saved = user_file::save(links::file(memory), state);
     bytes::put(memory, 0, state);
     bytes::put(memory, step::SAVED, state);
     saved
@@ -73,8 +72,8 @@ fn ask(asked: Asked, memory: &mut [u8], answer: &mut [u8]) -> usize {
 }
 
 // Sends the request that a step handed out, and takes in the answer.
-fn exchange(g: LogArguments, file: i32, asked: Asked, memory: &mut [u8]) -> Asked {
-    if !save(file, memory) {
+fn exchange(asked: Asked, memory: &mut [u8]) -> Asked {
+    if !save(memory) {
         return ended(NOT_SAVED, 0);
     }
     let mut room = [0u8; 4096];
@@ -87,22 +86,22 @@ fn exchange(g: LogArguments, file: i32, asked: Asked, memory: &mut [u8]) -> Aske
         kind: 0,
         position: 0,
     };
-    step::run(g, taken, bytes::front(answer, n), memory)
+    step::run(taken, bytes::front(answer, n), memory)
 }
 
 // A call from its start to its end: the input is the entry of a Write. No call takes more than 128 answers.
-pub fn run(g: LogArguments, file: i32, start: Action, input: &[u8], memory: &mut [u8]) -> Asked {
-    let mut asked = step::run(g, start, input, memory);
+pub fn run(start: Action, input: &[u8], memory: &mut [u8]) -> Asked {
+    let mut asked = step::run(start, input, memory);
     let mut left: u8 = 128;
     while left > 0 {
         if asked.ended == 1 {
             left = 0;
         } else {
-            asked = exchange(g, file, asked, memory);
+            asked = exchange(asked, memory);
             left -= 1;
         }
     }
-    if !save(file, memory) {
+    if !save(memory) {
         return ended(NOT_SAVED, 0);
     }
     asked

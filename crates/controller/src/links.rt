@@ -56,6 +56,18 @@ fn descriptor(memory: &[u8], at: usize) -> i32 {
     (bytes::u32_at(memory, at) % 2147483648) as i32
 }
 
+// Keeps the descriptor of the user's state, where that of a server 0 would stand.
+pub fn keep_file(file: i32, memory: &mut [u8]) {
+    // it is not below 0, so its size is the number itself
+    let descriptor = bytes::be4(segment::size(file));
+    bytes::put(memory, step::LINKS, &descriptor);
+}
+
+// The descriptor of the user's state.
+pub fn file(memory: &[u8]) -> i32 {
+    descriptor(memory, step::LINKS)
+}
+
 // Opens a server's link where it is not open. Whether it is open then.
 pub fn open(server: u32, memory: &mut [u8]) -> bool {
     let at = place(server);

@@ -22,10 +22,10 @@ use state_files::setup;
 use state_files::user_file;
 
 // The user's memory, zero. The `ensures` gives only the length, so that no proof computes with the list.
-fn memory() -> [u8; 84110]
-    ensures { λ r. ⌜ 84110 ≡ length r ⌝ }
+fn memory() -> [u8; 84134]
+    ensures { λ r. ⌜ 84134 ≡ length r ⌝ }
 {
-    [0; 84110]
+    [0; 84134]
 }
 
 // Whether argument 7 is a command that takes argument 8, or one that takes none.
@@ -116,11 +116,12 @@ fn run(g: LogArguments, folder: &[u8], users: &[u8]) {
 fn run_state(g: LogArguments, fd: i32, users: &[u8], key: &[u8]) {
     let mut space = memory();
     let m: &mut [u8] = &mut space;
-    if !load(g, fd, users, m) {
-        return;
-    }
+    step::lay_settings(g, m);
     step::lay_keys(key, users, m);
-    command::run(g, fd, m);
+    links::keep_file(fd, m);
+    if load(g, fd, users, m) {
+        command::run(m);
+    }
 }
 
 // Loads the state that counts. Whether it is there.
@@ -146,7 +147,7 @@ fn load(g: LogArguments, fd: i32, users: &[u8], memory: &mut [u8]) -> bool {
     if !bind(mark, memory) {
         return false;
     }
-    if call::replace_older(fd, memory) {
+    if call::replace_older(memory) {
         return true;
     }
     os::fail(b"the state cannot be written");

@@ -1,8 +1,10 @@
-// A step of a user's call: its start, or an answer that it takes in. The user's memory is one slice of 84,110 bytes: its state
+// A step of a user's call: its start, or an answer that it takes in. The user's memory is one slice of 84,134 bytes: its state
 // (`user_file`), the state as it was saved last, the call, its hashes, the held entry, the request, the entry that is read and the links;
-// then how many bytes the list of users has, the user's key (`key`) and the list.
+// then how many bytes the list of users has, the user's key (`key`) and the list; N, the own number and the log's name.
 use crate::key;
+use c_layout::user_start;
 use c_layout::user_start::Asked;
+use c_layout::user_start::SettledAnswer;
 use exchange::user_step;
 use exchange::user_step::Layout;
 use sha256::bytes;
@@ -30,6 +32,12 @@ const KEY: usize = 14854;
 
 const USERS: usize = 80470;
 
+const SERVERS: usize = 84110;
+
+const OWN: usize = 84114;
+
+const LOG: usize = 84118;
+
 // What a step does: 0 takes in an answer, 1 starts an Update, 2 a Write, 3 a Read of the entry at a position, 4 a give-up.
 pub struct Action {
     pub kind: u8,
@@ -44,9 +52,37 @@ pub fn lay_keys(key: &[u8], users: &[u8], memory: &mut [u8]) {
 }
 
 // The public keys of all users.
-pub fn users(memory: &[u8]) -> &[u8] {
+fn users(memory: &[u8]) -> &[u8] {
     let length = bytes::u32_at(memory, LISTED);
     bytes::front(bytes::from(memory, USERS), length as usize)
+}
+
+// Lays N, the own number and the log's name.
+pub fn lay_settings(g: LogArguments, memory: &mut [u8]) {
+    let log = g.log;
+    bytes::put2(memory, SERVERS, &bytes::be4(g.servers), &bytes::be4(g.own));
+    bytes::put(memory, LOG, &log);
+}
+
+fn log_of(memory: &[u8]) -> [u8; 16] {
+    let mut log = [0u8; 16];
+    user_step::load(memory, LOG, &mut log);
+    log
+}
+
+// Whether the own operation at a position is settled.
+pub fn settled(position: u32, memory: &[u8]) -> SettledAnswer {
+    let mut kept = [0u8; 46];
+    user_step::load(memory, user_file::KEPT, &mut kept);
+    let log = log_of(memory);
+    user_start::settled(
+        bytes::u32_at(memory, SERVERS),
+        bytes::u32_at(memory, OWN),
+        &log,
+        users(memory),
+        &kept,
+        position,
+    )
 }
 
 // Where a step finds what it is made on.
@@ -75,13 +111,12 @@ fn randomizer(kind: u8, entry: &[u8], memory: &[u8]) -> [u8; 32] {
 }
 
 // What a step is made with. The input is the entry of a Write, or the answer that is taken in.
-fn made_with(g: LogArguments, step: Action, input: &[u8], memory: &[u8]) -> user_step::StepInput {
+fn made_with(step: Action, input: &[u8], memory: &[u8]) -> user_step::StepInput {
     let key = bytes::from(memory, KEY);
-    let log = g.log;
     user_step::StepInput {
-        servers: g.servers,
-        own: g.own,
-        log,
+        servers: bytes::u32_at(memory, SERVERS),
+        own: bytes::u32_at(memory, OWN),
+        log: log_of(memory),
         id: key::identifier(key),
         seed: key::seed(key),
         randomizer: randomizer(step.kind, input, memory),
@@ -95,6 +130,6 @@ fn made_with(g: LogArguments, step: Action, input: &[u8], memory: &[u8]) -> user
 }
 
 // A step of a call on a user's state.
-pub fn run(g: LogArguments, step: Action, input: &[u8], memory: &mut [u8]) -> Asked {
-    user_step::on(made_with(g, step, input, memory), layout(), input, memory)
+pub fn run(step: Action, input: &[u8], memory: &mut [u8]) -> Asked {
+    user_step::on(made_with(step, input, memory), layout(), input, memory)
 }

@@ -4,35 +4,38 @@ ghost use Prim.Native.Nat.{_≤_};
 use crate::report;
 use crate::world;
 use exchange::run;
-use exchange::run::Run;
 use exchange::user_place;
 use programs::place;
 use programs::print;
 use sha256::bytes;
 
 // From now on every server but one keeps two copies.
-pub fn begin(r: Run, honest: u32, world: &mut [u8]) {
-    if r.second != 0 {
+pub fn begin(honest: u32, world: &mut [u8]) {
+    if world::is_forked(world) {
         print::text(b"  the log is forked already\n");
         return;
     }
     world::fork((honest % 256) as u8, world);
-    report::forked(world::run(world), world::common(world));
+    report::forked(
+        world::servers(world),
+        world::honest(world),
+        world::common(world),
+    );
 }
 
 // What is to be said after a user's Update or Write on a forked log.
-pub fn after(r: Run, own: u8, open_before: bool, world: &mut [u8]) {
+pub fn after(own: u8, open_before: bool, world: &mut [u8]) {
     let operation = report::next(run::version(own, world));
-    notice(r, own, operation, open_before, world);
-    if r.second != 0 {
-        compare(r, own, own % 3 + 1, world);
-        compare(r, own, (own % 3 + 1) % 3 + 1, world);
+    notice(own, operation, open_before, world);
+    if world::is_forked(world) {
+        compare(own, own % 3 + 1, world);
+        compare(own, (own % 3 + 1) % 3 + 1, world);
     }
 }
 
 // Says whether the refusal of a user's last step, at an operation, shows the fork.
-pub fn notice(r: Run, own: u8, operation: u32, open_before: bool, world: &[u8]) {
-    if r.second == 0 {
+pub fn notice(own: u8, operation: u32, open_before: bool, world: &[u8]) {
+    if !world::is_forked(world) {
         return;
     }
     let place = place::of(own, world);
@@ -46,7 +49,7 @@ pub fn notice(r: Run, own: u8, operation: u32, open_before: bool, world: &[u8]) 
         );
         return;
     }
-    report::noticed(r, world::common(world), own, operation);
+    report::noticed(world::servers(world), world::common(world), own, operation);
 }
 
 // Whether a refusal shows that a server broke the rules, where no write was open. Servers that all follow them give no answer that a
@@ -68,23 +71,23 @@ fn may_wait(code: u8) -> bool {
 }
 
 // Compares the views of two users: says where their reads differ first, if they do.
-fn compare(r: Run, a: u8, b: u8, world: &mut [u8]) {
+fn compare(a: u8, b: u8, world: &mut [u8]) {
     let shorter = run::shorter(a, b, world);
-    let d = first_difference(r, a, b, shorter, world);
+    let d = first_difference(a, b, shorter, world);
     if d != 0 {
-        report::difference(r, a, b, d, report::next(shorter - d));
+        report::difference(world::servers(world), a, b, d, report::next(shorter - d));
     }
 }
 
 // The first position up to `shorter` that two users read differently; 0 where there is none.
-fn first_difference(r: Run, a: u8, b: u8, shorter: u32, world: &mut [u8]) -> u32
+fn first_difference(a: u8, b: u8, shorter: u32, world: &mut [u8]) -> u32
     ensures { λ r. ⌜ r ≤ shorter ⌝ }
 {
     let mut p: u32 = 0;
     while p < shorter {
         p += 1;
-        run::read(r, a, p, world);
-        run::read(r, b, p, world);
+        world::read(a, p, world);
+        world::read(b, p, world);
         if differ(place::of(a, world), place::of(b, world)) {
             return p;
         }

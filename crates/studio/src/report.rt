@@ -1,6 +1,5 @@
 // What is printed.
 use c_layout::user_start::SettledAnswer;
-use exchange::run::Run;
 use exchange::user_place;
 use firing::entry;
 use firing_text::kiln;
@@ -201,7 +200,7 @@ pub fn board(own: u8, entries: u32) {
 }
 
 // Whether the operation is settled that a user has read.
-pub fn settled(r: Run, own: u8, position: u32, s: SettledAnswer, place: &[u8]) {
+pub fn settled(servers: u8, own: u8, position: u32, s: SettledAnswer, place: &[u8]) {
     let version = bytes::u32_at(place, 0);
     let author = bytes::u16_at(place, user_place::AUTHOR);
     print::filled(
@@ -210,8 +209,8 @@ pub fn settled(r: Run, own: u8, position: u32, s: SettledAnswer, place: &[u8]) {
             s.code,
             version,
             position,
-            r.servers as u32,
-            wait(r, position),
+            servers as u32,
+            wait(servers, position),
         ],
     );
     if s.code != 0 {
@@ -234,29 +233,29 @@ fn standing(is_own: bool, is_settled: bool) {
 }
 
 // Q of a position.
-fn wait(r: Run, position: u32) -> u32 {
-    label::wait(position, r.servers) as u32
+fn wait(servers: u8, position: u32) -> u32 {
+    label::wait(position, servers) as u32
 }
 
 // A fork that begins, where the longest view has so many operations.
-pub fn forked(r: Run, common: u32) {
+pub fn forked(servers: u8, honest: u8, common: u32) {
     let first = next(common);
     print::filled(
         b"  every server but # keeps two copies from now on: one for users 1 and 3, one for user 2\n  \
         positions up to # are in both; the first that can differ is #, and Q(#, #) = #\n",
         &[
-            r.honest as u32,
+            honest as u32,
             common,
             first,
             first,
-            r.servers as u32,
-            wait(r, first),
+            servers as u32,
+            wait(servers, first),
         ],
     );
 }
 
 // A user that a refusal shows the fork, where the longest view had so many operations when it began.
-pub fn noticed(r: Run, common: u32, own: u8, operation: u32) {
+pub fn noticed(servers: u8, common: u32, own: u8, operation: u32) {
     let first = next(common);
     print::filled(
         b"  fork at position #: user # notices it at operation #; Q(#, #) = #\n",
@@ -265,14 +264,14 @@ pub fn noticed(r: Run, common: u32, own: u8, operation: u32) {
             own as u32,
             operation,
             first,
-            r.servers as u32,
-            wait(r, first),
+            servers as u32,
+            wait(servers, first),
         ],
     );
 }
 
 // Views that differ from position d on, with so many operations from there to the end of the shorter one.
-pub fn difference(r: Run, a: u8, b: u8, d: u32, operations: u32) {
+pub fn difference(servers: u8, a: u8, b: u8, d: u32, operations: u32) {
     print::filled(
         b"  users # and # read position # differently; operations from there to the end of the shorter view: #, at most Q(#, #) = #\n",
         &[
@@ -281,8 +280,8 @@ pub fn difference(r: Run, a: u8, b: u8, d: u32, operations: u32) {
             d,
             operations,
             d,
-            r.servers as u32,
-            wait(r, d),
+            servers as u32,
+            wait(servers, d),
         ],
     );
 }

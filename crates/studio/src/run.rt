@@ -5,8 +5,6 @@ use crate::report;
 use crate::world;
 use exchange::run;
 use exchange::run::Call;
-use exchange::run::Run;
-use exchange::user_place;
 use firing_text::kiln;
 use programs::place;
 use programs::print;
@@ -21,16 +19,15 @@ pub fn line(line: &[u8], number: usize, world: &mut [u8]) {
     }
     report::echo(line);
     let text = bytes::from(line, lines::skip_blanks(line, 0));
-    let r = world::run(world);
-    let c = script::parse(text, r.servers);
+    let c = script::parse(text, world::servers(world));
     if report::fault(number, c) {
         return;
     }
     let word = c.word;
     match word {
         Word::Servers => begin(c.first, world),
-        Word::Fork => fork::begin(r, c.first, world),
-        _ => act(c, text, r, world),
+        Word::Fork => fork::begin(c.first, world),
+        _ => act(c, text, world),
     }
 }
 
@@ -42,24 +39,24 @@ fn begin(n: u32, world: &mut [u8]) {
 }
 
 // A user's call.
-fn act(c: Command, line: &[u8], r: Run, world: &mut [u8]) {
+fn act(c: Command, line: &[u8], world: &mut [u8]) {
     let own = (c.first % 256) as u8;
     let rest = bytes::from(line, c.text);
     let word = c.word;
     match word {
-        Word::Update => update(r, own, world),
-        Word::Read | Word::Report | Word::Warm | Word::Begin => read(c, rest, r, world),
-        Word::Board => board::show(r, own, world),
-        Word::Settled => settled(r, own, c.second, world),
-        Word::Strike => strike(r, own, c.second, world),
-        Word::Fire => fire(r, own, rest, world),
-        Word::GiveUp => give_up(r, own, run::ALL, world),
-        Word::CutGiveUp => give_up(r, own, c.second, world),
-        _ => write(c, rest, r, world),
+        Word::Update => update(own, world),
+        Word::Read | Word::Report | Word::Warm | Word::Begin => read(c, rest, world),
+        Word::Board => board::show(own, world),
+        Word::Settled => settled(own, c.second, world),
+        Word::Strike => strike(own, c.second, world),
+        Word::Fire => fire(own, rest, world),
+        Word::GiveUp => give_up(own, run::ALL, world),
+        Word::CutGiveUp => give_up(own, c.second, world),
+        _ => write(c, rest, world),
     }
 }
 
-fn update(r: Run, own: u8, world: &mut [u8]) {
+fn update(own: u8, world: &mut [u8]) {
     let open_before = world::some_open(world);
     let c = Call {
         own,
@@ -67,91 +64,96 @@ fn update(r: Run, own: u8, world: &mut [u8]) {
         number: 0,
         most: run::ALL,
     };
-    let answers = run::make(r, c, b"", world);
+    let answers = world::call(c, b"", world);
     report::call(place::of(own, world), answers);
-    fork::after(r, own, open_before, world);
+    fork::after(own, open_before, world);
 }
 
 // A give-up of the open write. No server that follows the rules refuses one but with 27, which ends it like 0.
-fn give_up(r: Run, own: u8, most: u32, world: &mut [u8]) {
+fn give_up(own: u8, most: u32, world: &mut [u8]) {
     let c = Call {
         own,
         kind: 4,
         number: 0,
         most,
     };
-    let answers = run::make(r, c, b"", world);
+    let answers = world::call(c, b"", world);
     let place = place::of(own, world);
     report::call(place, answers);
     report::given_up(place);
     let operation = report::next(run::version(own, world));
-    fork::notice(r, own, operation, false, world);
+    fork::notice(own, operation, false, world);
 }
 
 // Reads a position, and prints the entry there or what is reported of its firing, with the windows that a text lists.
-fn read(c: Command, text: &[u8], r: Run, world: &mut [u8]) {
+fn read(c: Command, text: &[u8], world: &mut [u8]) {
     let own = (c.first % 256) as u8;
     let word = c.word;
-    let answers = run::read(r, own, c.second, world);
+    let answers = world::read(own, c.second, world);
     let place = place::of(own, world);
     report::call(place, answers);
     match word {
         Word::Read => report::entry(c.second, place),
         _ => report::firing(c, text, place),
     }
-    fork::notice(r, own, c.second, world::some_open(world), world);
+    fork::notice(own, c.second, world::some_open(world), world);
 }
 
-fn settled(r: Run, own: u8, position: u32, world: &mut [u8]) {
-    let asked = run::settings(r, own, 0, position);
-    let s = user_place::settled(asked, run::keys(r, world), place::of(own, world));
-    run::read(r, own, position, world);
-    report::settled(r, own, position, s, place::of(own, world));
+fn settled(own: u8, position: u32, world: &mut [u8]) {
+    let s = world::settled(own, position, world);
+    world::read(own, position, world);
+    report::settled(
+        world::servers(world),
+        own,
+        position,
+        s,
+        place::of(own, world),
+    );
 }
 
 // An entry that inserts a text.
-fn write(c: Command, text: &[u8], r: Run, world: &mut [u8]) {
+fn write(c: Command, text: &[u8], world: &mut [u8]) {
     let own = (c.first % 256) as u8;
     let word = c.word;
     match word {
-        Word::Cut => insert(r, own, text, c.second, world),
-        Word::Resume => resume(r, own, text, world),
-        _ => insert(r, own, text, run::ALL, world),
+        Word::Cut => insert(own, text, c.second, world),
+        Word::Resume => resume(own, text, world),
+        _ => insert(own, text, run::ALL, world),
     }
 }
 
-fn resume(r: Run, own: u8, text: &[u8], world: &mut [u8]) {
+fn resume(own: u8, text: &[u8], world: &mut [u8]) {
     if world::is_open(own, world) {
-        insert(r, own, text, run::ALL, world);
+        insert(own, text, run::ALL, world);
     } else {
         print::text(b"  this user has no open write\n");
     }
 }
 
 // An entry that inserts a text: the byte 1 before it.
-fn insert(r: Run, own: u8, text: &[u8], most: u32, world: &mut [u8]) {
+fn insert(own: u8, text: &[u8], most: u32, world: &mut [u8]) {
     let mut entry = [0u8; 1024];
     bytes::put2(&mut entry, 0, &[1], text);
     let whole = bytes::front(&entry, 1 + text.len());
-    write_entry(r, own, whole, most, world);
+    write_entry(own, whole, most, world);
 }
 
 // An entry that strikes a position: the byte 2 before its four bytes.
-fn strike(r: Run, own: u8, position: u32, world: &mut [u8]) {
+fn strike(own: u8, position: u32, world: &mut [u8]) {
     let p = bytes::be4(position);
     let entry = [2, p[0], p[1], p[2], p[3]];
-    write_entry(r, own, &entry, run::ALL, world);
+    write_entry(own, &entry, run::ALL, world);
 }
 
 // An entry that holds a firing, with the segments that a text lists.
-fn fire(r: Run, own: u8, text: &[u8], world: &mut [u8]) {
+fn fire(own: u8, text: &[u8], world: &mut [u8]) {
     let mut entry = [0u8; 98];
     let length = kiln::lay(text, &mut entry);
-    write_entry(r, own, bytes::front(&entry, length), run::ALL, world);
+    write_entry(own, bytes::front(&entry, length), run::ALL, world);
 }
 
 // A Write of an entry, or of the open one that it resumes. Its randomizer is the own number 32 times.
-fn write_entry(r: Run, own: u8, entry: &[u8], most: u32, world: &mut [u8]) {
+fn write_entry(own: u8, entry: &[u8], most: u32, world: &mut [u8]) {
     let open_before = world::some_open(world);
     let c = Call {
         own,
@@ -159,9 +161,9 @@ fn write_entry(r: Run, own: u8, entry: &[u8], most: u32, world: &mut [u8]) {
         number: own as u32,
         most,
     };
-    let answers = run::make(r, c, entry, world);
+    let answers = world::call(c, entry, world);
     let place = place::of(own, world);
     report::call(place, answers);
     report::cut(place);
-    fork::after(r, own, open_before, world);
+    fork::after(own, open_before, world);
 }

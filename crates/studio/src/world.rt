@@ -3,7 +3,9 @@
 // what the run is.
 ghost use mathlib.Core.Path.{_≡_};
 ghost use lib.ListN.{length};
+use c_layout::user_start::SettledAnswer;
 use exchange::run;
+use exchange::run::Call;
 use exchange::run::Run;
 use exchange::user_place;
 use exchange::user_step;
@@ -36,7 +38,7 @@ pub fn zeros() -> [u8; 2362840]
 }
 
 // The run as it goes on.
-pub fn run(world: &[u8]) -> Run {
+fn run(world: &[u8]) -> Run {
     Run {
         servers: bytes::byte_at(world, SERVERS),
         users: 3,
@@ -47,6 +49,38 @@ pub fn run(world: &[u8]) -> Run {
         second: bytes::u32_at(world, FORKED),
         honest: bytes::byte_at(world, HONEST),
     }
+}
+
+// N.
+pub fn servers(world: &[u8]) -> u8 {
+    bytes::byte_at(world, SERVERS)
+}
+
+// Whether every server but one shows user 2 a second copy.
+pub fn is_forked(world: &[u8]) -> bool {
+    bytes::u32_at(world, FORKED) != 0
+}
+
+// The server that shows all users the same then.
+pub fn honest(world: &[u8]) -> u8 {
+    bytes::byte_at(world, HONEST)
+}
+
+// A user's call, and how many answers it took in.
+pub fn call(c: Call, input: &[u8], world: &mut [u8]) -> u32 {
+    run::make(run(world), c, input, world)
+}
+
+// A user's Read of a position, to its end, and how many answers it took in.
+pub fn read(own: u8, position: u32, world: &mut [u8]) -> u32 {
+    run::read(run(world), own, position, world)
+}
+
+// Whether a user's own operation at a position is settled.
+pub fn settled(own: u8, position: u32, world: &[u8]) -> SettledAnswer {
+    let r = run(world);
+    let asked = run::settings(r, own, 0, position);
+    user_place::settled(asked, run::keys(r, world), place::of(own, world))
 }
 
 // From now on there are n servers, which all follow the rules.

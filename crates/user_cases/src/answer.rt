@@ -1,6 +1,5 @@
 // The answers that a user takes in: the servers', and made-up ones.
 use crate::case;
-use crate::case::Case;
 use crate::step;
 use crate::work;
 use exchange::run;
@@ -12,20 +11,20 @@ use tree::digest;
 use tree::message;
 
 // One answer of the server that is asked, taken in.
-pub fn turn(c: Case, work: &mut [u8]) {
+pub fn turn(text: &[u8], work: &mut [u8]) {
     let mut space = [0u8; 2600];
     let n = run::asked(work::run(), 1, work, &mut space);
-    take(c, n, &mut space, work);
+    take(text, n, &mut space, work);
 }
 
 // A made-up answer with code 0 to the request that was asked last, with the body that a line says, taken in.
-pub fn made(c: Case, work: &mut [u8]) {
+pub fn made(text: &[u8], work: &mut [u8]) {
     let mut space = [0u8; 2600];
     let mut body = [0u8; 2560];
-    let n = put_body(c, work, &mut body);
+    let n = put_body(text, work, &mut body);
     let h = header(work);
     bytes::put2(&mut space, 0, &h, bytes::front(&body, n));
-    take(c, n % 4096 + 10, &mut space, work);
+    take(text, n % 4096 + 10, &mut space, work);
 }
 
 // The header of an answer with code 0 to the request that was asked last.
@@ -43,19 +42,22 @@ fn header(work: &[u8]) -> [u8; 10] {
 
 // Writes the body that a line says to the front of d, and answers its length: 1 a head, 2 a hash, 3 an author and an entry, 4 a Record
 // of the position that was asked for; else none.
-fn put_body(c: Case, work: &[u8], d: &mut [u8]) -> usize {
-    if c.n4 == 1 {
-        return put_head(c.n5, c.n6, d);
+fn put_body(text: &[u8], work: &[u8], d: &mut [u8]) -> usize {
+    let what = case::number(text, 4);
+    let a = case::number(text, 5);
+    let b = case::number(text, 6);
+    if what == 1 {
+        return put_head(a, b, d);
     }
-    if c.n4 == 2 {
-        bytes::put(d, 0, &[(c.n5 % 256) as u8; 32]);
+    if what == 2 {
+        bytes::put(d, 0, &[(a % 256) as u8; 32]);
         return 32;
     }
-    if c.n4 == 3 {
-        return put_entry(c.n5, c.n6, c.n7, d);
+    if what == 3 {
+        return put_entry(a, b, case::number(text, 7), d);
     }
-    if c.n4 == 4 {
-        return put_record(c, work, d);
+    if what == 4 {
+        return put_record(text, work, d);
     }
     0
 }
@@ -74,14 +76,14 @@ fn put_entry(author: u32, length: u32, x: u32, d: &mut [u8]) -> usize {
 }
 
 // The Record by a user of the digest that a cover of equal hashes gives, signed with a number of the user's key.
-fn put_record(c: Case, work: &[u8], d: &mut [u8]) -> usize {
-    let a = (c.n5 % 256) as u8;
+fn put_record(text: &[u8], work: &[u8], d: &mut [u8]) -> usize {
+    let a = (case::number(text, 5) % 256) as u8;
     let p = message::request_position(user_place::request_of(work));
-    let hashes = [(c.n6 % 256) as u8; 1248];
-    let digest = digest::cover_digest(&hashes, step::version(c.changes, work), p);
+    let hashes = [(case::number(text, 6) % 256) as u8; 1248];
+    let digest = digest::cover_digest(&hashes, step::version(text, work), p);
     bytes::put2(d, 0, &bytes::be2(a as u16), &digest);
-    let text = message::signed_text(key::LOG, p, digest);
-    put_signature(a, c.n7, &text, work, d);
+    let signed = message::signed_text(key::LOG, p, digest);
+    put_signature(a, case::number(text, 7), &signed, work, d);
     2542
 }
 
@@ -111,9 +113,8 @@ pub fn entry(first: u8, x: u32) -> [u8; 1100] {
 }
 
 // Takes in an answer of n bytes with the changes of a line, to a byte of it or to its length.
-fn take(c: Case, n: usize, answer: &mut [u8], work: &mut [u8]) {
-    let k = c.changes;
-    let size = case::setting(k, 11, (n % 65536) as u32);
-    line::patch(answer, 100, 0, k.first, k.to_first);
-    step::step(c, 0, 0, bytes::front(answer, size as usize), work);
+fn take(text: &[u8], n: usize, answer: &mut [u8], work: &mut [u8]) {
+    let size = case::setting(text, 11, (n % 65536) as u32);
+    case::patch(text, 100, answer);
+    step::step(text, 0, 0, bytes::front(answer, size as usize), work);
 }

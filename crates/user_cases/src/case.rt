@@ -1,66 +1,28 @@
-// A line of the file, by the numbers of data/README.md.
+// The numbers of a line, read from its text behind the colon. data/README.md says what they mean.
+use programs::line;
 
-// The place that is worked on, the one that is left, what is done, and its numbers 4 to 9.
-pub struct Case {
-    pub place: u32,
-    pub left: u32,
-    pub what: u32,
-    pub n4: u32,
-    pub n5: u32,
-    pub n6: u32,
-    pub n7: u32,
-    pub n8: u32,
-    pub n9: u32,
-    pub changes: Changes,
+// Number k, which is counted from 1: 1 is the place that is worked on, 2 the place that is left, 3 what is done.
+pub fn number(text: &[u8], k: u8) -> u32 {
+    let f = line::numbers(text);
+    f[(k as usize + 15) % 16]
 }
 
-// Up to three changes, each of what and to what.
-pub struct Changes {
-    pub first: u32,
-    pub to_first: u32,
-    pub second: u32,
-    pub to_second: u32,
-    pub third: u32,
-    pub to_third: u32,
-}
-
-// The line with these numbers.
-pub fn of(f: [u32; 16]) -> Case {
-    Case {
-        place: f[0],
-        left: f[1],
-        what: f[2],
-        n4: f[3],
-        n5: f[4],
-        n6: f[5],
-        n7: f[6],
-        n8: f[7],
-        n9: f[8],
-        changes: changes_of(f),
+// What a setting is after the changes of a line, the last first.
+pub fn setting(text: &[u8], which: u32, usual: u32) -> u32 {
+    let f = line::numbers(text);
+    if f[14] == which {
+        return f[15];
     }
-}
-
-fn changes_of(f: [u32; 16]) -> Changes {
-    Changes {
-        first: f[10],
-        to_first: f[11],
-        second: f[12],
-        to_second: f[13],
-        third: f[14],
-        to_third: f[15],
+    if f[12] == which {
+        return f[13];
     }
-}
-
-// What a setting is after the changes, the last first.
-pub fn setting(c: Changes, which: u32, usual: u32) -> u32 {
-    if c.third == which {
-        return c.to_third;
-    }
-    if c.second == which {
-        return c.to_second;
-    }
-    if c.first == which {
-        return c.to_first;
+    if f[10] == which {
+        return f[11];
     }
     usual
+}
+
+// Changes the byte of d that a line says, as its first change, where it is one of those from `first` on.
+pub fn patch(text: &[u8], first: u32, d: &mut [u8]) {
+    line::patch(d, first, 0, number(text, 11), number(text, 12));
 }

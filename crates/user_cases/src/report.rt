@@ -1,5 +1,5 @@
 // What is printed of a place after a step.
-use crate::case::Case;
+use crate::case;
 use crate::step;
 use crate::work;
 use exchange::user_place;
@@ -84,8 +84,8 @@ pub fn servers(work: &[u8]) {
 }
 
 // Whether the position that a line says is settled.
-pub fn settled(c: Case, work: &mut [u8]) {
-    let s = step::prepare(c, 0, c.n4, work);
+pub fn settled(text: &[u8], work: &mut [u8]) {
+    let s = step::prepare(text, 0, case::number(text, 4), work);
     let r = user_place::settled(s, work::keys(work), work);
     print::number(b": code ", r.code as usize);
     if r.settled == 1 {

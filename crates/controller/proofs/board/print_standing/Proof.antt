@@ -7,10 +7,10 @@ use Rattle.controller.proofs.board.print_standing.Statement.{statement}
 use Rattle.controller.proofs.board.print_standing.Tie as tie
 
 abbrev Inv-loop : tie.InvT-loop
-Inv-loop g file n memory₀ standing k₀ memory k = (k ≤ n) × (length memory ≡ length memory₀)
+Inv-loop n memory₀ standing k₀ memory k = (k ≤ n) × (length memory ≡ length memory₀)
 
 abbrev μ-loop : tie.MeasureT-loop
-μ-loop g file n memory₀ standing k₀ memory k = n - k
+μ-loop n memory₀ standing k₀ memory k = n - k
 
 loop-holds : tie.Need-loop-holds Inv-loop μ-loop
 loop-holds c = search needs

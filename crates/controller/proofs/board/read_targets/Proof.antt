@@ -10,11 +10,11 @@ use Rattle.controller.proofs.board.read_targets.Statement.{statement}
 use Rattle.controller.proofs.board.read_targets.Tie as tie
 
 abbrev Inv-loop : tie.InvT-loop
-Inv-loop g file n memory₀ targets₀ k₀ memory targets k =
+Inv-loop n memory₀ targets₀ k₀ memory targets k =
     (k ≤ n) × ((length memory ≡ length memory₀) × (length targets ≡ length targets₀))
 
 abbrev μ-loop : tie.MeasureT-loop
-μ-loop g file n memory₀ targets₀ k₀ memory targets k = n - k
+μ-loop n memory₀ targets₀ k₀ memory targets k = n - k
 
 loop-holds : tie.Need-loop-holds Inv-loop μ-loop
 loop-holds c = search needs

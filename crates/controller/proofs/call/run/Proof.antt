@@ -5,10 +5,10 @@ use Rattle.controller.proofs.call.run.Statement.{statement}
 use Rattle.controller.proofs.call.run.Tie as tie
 
 abbrev Inv-loop : tie.InvT-loop
-Inv-loop g file input memory₀ asked₀ left₀ memory asked left = length memory ≡ length memory₀
+Inv-loop input memory₀ asked₀ left₀ memory asked left = length memory ≡ length memory₀
 
 abbrev μ-loop : tie.MeasureT-loop
-μ-loop g file input memory₀ asked₀ left₀ memory asked left = left
+μ-loop input memory₀ asked₀ left₀ memory asked left = left
 
 run-requires : tie.Need-run-requires Inv-loop μ-loop
 run-requires c κs = search needs

@@ -7,10 +7,10 @@ use Rattle.studio.proofs.board.print.Statement.{statement}
 use Rattle.studio.proofs.board.print.Tie as tie
 
 abbrev Inv-loop : tie.InvT-loop
-Inv-loop g own n world₀ standing k₀ world k = (k ≤ n) × (length world ≡ length world₀)
+Inv-loop own n world₀ standing k₀ world k = (k ≤ n) × (length world ≡ length world₀)
 
 abbrev μ-loop : tie.MeasureT-loop
-μ-loop g own n world₀ standing k₀ world k = n - k
+μ-loop own n world₀ standing k₀ world k = n - k
 
 loop-holds : tie.Need-loop-holds Inv-loop μ-loop
 loop-holds c = search needs

@@ -7,10 +7,10 @@ use Rattle.studio.proofs.board.read_targets.Statement.{statement}
 use Rattle.studio.proofs.board.read_targets.Tie as tie
 
 abbrev Inv-loop : tie.InvT-loop
-Inv-loop g own n world₀ targets₀ k₀ world targets k = (k ≤ n) × ((length world ≡ length world₀) × (length targets ≡ length targets₀))
+Inv-loop own n world₀ targets₀ k₀ world targets k = (k ≤ n) × ((length world ≡ length world₀) × (length targets ≡ length targets₀))
 
 abbrev μ-loop : tie.MeasureT-loop
-μ-loop g own n world₀ targets₀ k₀ world targets k = n - k
+μ-loop own n world₀ targets₀ k₀ world targets k = n - k
 
 loop-holds : tie.Need-loop-holds Inv-loop μ-loop
 loop-holds c = search needs

@@ -7,10 +7,10 @@ use Rattle.studio.proofs.fork.first_difference.Statement.{statement}
 use Rattle.studio.proofs.fork.first_difference.Tie as tie
 
 abbrev Inv-loop : tie.InvT-loop
-Inv-loop g a b shorter world₀ p₀ world p = (p ≤ shorter) × (length world ≡ length world₀)
+Inv-loop a b shorter world₀ p₀ world p = (p ≤ shorter) × (length world ≡ length world₀)
 
 abbrev μ-loop : tie.MeasureT-loop
-μ-loop g a b shorter world₀ p₀ world p = shorter - p
+μ-loop a b shorter world₀ p₀ world p = shorter - p
 
 loop-holds : tie.Need-loop-holds Inv-loop μ-loop
 loop-holds c = search needs
