@@ -86,7 +86,8 @@ allLaid at l world =
 -- What is handed back and what is in what is kept, the path, the signature and the slice after the call's part of a step.
 abbrev pub CallYields : Layout → List ℕ → UserOutcome → Asked → List ℕ → List ℕ → List ℕ → List ℕ → Type 0
 CallYields at world o r kept path signature after =
-    (r ≡ o .result) × ((kept ≡ o .lent .kept) × ((path ≡ o .lent .path) × ((signature ≡ o .lent .signature) × (after ≡ callLaid at (o .lent) world))))
+    (r ≡ o .result) × ((kept ≡ o .lent .kept) × ((path ≡ o .lent .path)
+    × ((signature ≡ o .lent .signature) × (after ≡ callLaid at (o .lent) world))))
 
 -- A step: what the call of `c_layout` leaves, laid into the slice.
 unfoldable pub stepMade : StepInput → Layout → List ℕ → List ℕ → UserOutcome

@@ -177,8 +177,8 @@ fn tree_of(s: StepInput, at: Layout, world: &[u8]) -> &[u8]
 
 // Lays the call, its hashes and what it holds.
 fn lay_call(at: Layout, call: &[u8; 82], hashes: &[u8; 1248], held: &[u8; 1026], world: &mut [u8])
-    ensures { λ _. ⌜ now (world .exit) ≡ laid3 (at .call) (now (call .entry)) (at .hashes) (now (hashes .entry)) (at .held) (now (held .entry))
-        (now (world .entry)) ⌝ }
+    ensures { λ _. ⌜ now (world .exit) ≡ laid3 (at .call) (now (call .entry)) (at .hashes) (now (hashes .entry))
+        (at .held) (now (held .entry)) (now (world .entry)) ⌝ }
 {
     bytes::put(world, at.call, call);
     bytes::put(world, at.hashes, hashes);
