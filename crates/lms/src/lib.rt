@@ -1,5 +1,7 @@
 // LMS signatures with SHA-256, RFC 8554. What is below the entry points works for each width and height of the RFC's tables. The entry
 // points take the two types that a public key names, the LMS type first; a pair that is no set acts by rows of types that no set has.
+#![tactic(auto)]
+
 ghost use Rattle.std.specs.Prelude.{◌≡◌};
 ghost use Rattle.lms.specs.Sets.{ots_of, lms_of};
 ghost use Rattle.lms.specs.Check.{check_of, is_valid as is_valid_of};
@@ -14,7 +16,7 @@ mod tree;
 use sha256::{bytes, link};
 
 // RFC 8554, section 4.1: a row of Table 1, with n = 32.
-#[derive(Drop)]
+#[derive(Clone, Copy)]
 pub struct Ots {
     pub otstype: u32,
     pub w: usize,
@@ -23,14 +25,14 @@ pub struct Ots {
 }
 
 // RFC 8554, section 5.1: a row of Table 2, with m = 32.
-#[derive(Drop)]
+#[derive(Clone, Copy)]
 pub struct Lms {
     pub lmstype: u32,
     pub h: usize,
 }
 
 // What a check answers: no, or the number that the signature used.
-#[derive(Drop)]
+#[derive(Clone, Copy)]
 pub enum Checked {
     No,
     Number(u32),

@@ -7,7 +7,7 @@ ghost use Rattle.sha256.specs.Inner.{streamed};
 use crate::{block, bytes, value};
 
 // The hash value of the whole blocks taken in, the bytes after them with zeros behind, and the count of all bytes modulo 2^64.
-#[derive(Drop)]
+#[derive(Clone, Copy)]
 pub struct Sha {
     state: [u32; 8],
     block: [u8; 64],

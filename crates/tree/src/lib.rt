@@ -1,5 +1,7 @@
 // The history tree: levels, labels, owners and waits of its nodes; its digests and covers; the layouts of messages; what servers and users
 // share. The bytes are passed on to the crates above.
+#![tactic(auto)]
+
 pub mod bools;
 pub mod cover;
 pub mod digest;

@@ -1,5 +1,7 @@
 // The user list: users' public keys, 56 bytes each, one behind the other, users numbered from 1; what is asked of it, and every length that
 // follows from a key.
+#![tactic(auto)]
+
 ghost use Rattle.std.specs.Prelude.{◌≡◌, leb};
 ghost use Rattle.user_list.specs.Users.{user_key, is_listed, list_fits, group_fits, signature_length, tree_length};
 ghost use Rattle.user_list.specs.Users.{signature_count, least_request, least_answer};
