@@ -1,5 +1,7 @@
 // The server's and the user's calls over lent bytes at fixed offsets: a head, what a user keeps and a call that goes on, as C callers
 // keep them.
+#![tactic(auto)]
+
 mod marks;
 mod numbers;
 pub mod serving;

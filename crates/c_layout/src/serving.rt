@@ -13,7 +13,7 @@ use tree::{bools, digest};
 
 // A call's code, the length of its answer, 0 where none is written, and the store's used length after it.
 #[repr(C)]
-#[derive(Drop)]
+#[derive(Clone, Copy)]
 pub struct Served {
     pub code: u32,
     pub answer: u32,

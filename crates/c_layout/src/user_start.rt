@@ -16,7 +16,7 @@ use user_write::call::Write;
 // What a step hands back: its code, the server's code for 11, the server to ask and the length of the request, 0 where the call has ended,
 // whether it has, and the author and the entry's length of a Read that ended with 0, else 0.
 #[repr(C)]
-#[derive(Drop)]
+#[derive(Clone, Copy)]
 pub struct Asked {
     pub code: u32,
     pub refusal: u32,
@@ -29,7 +29,7 @@ pub struct Asked {
 
 // Whether an own operation is settled: the code, and 1 or 0.
 #[repr(C)]
-#[derive(Drop)]
+#[derive(Clone, Copy)]
 pub struct SettledAnswer {
     pub code: u32,
     pub settled: u32,

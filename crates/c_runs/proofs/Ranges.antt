@@ -243,7 +243,7 @@ module _ (s : Settings) where
     write-over z e l b =
         by_bool (λ x. w.opened ≡ x → (write_taken s (write_taken s σ m w a).state l (write_taken s σ m w a).call b).step.code ≡ 0 → ⊥) w.opened
         (λ _ o. committed-over s σ m w a o z e (write_taken s σ m w a).state.path (write_taken s σ m w a).state.signature l b)
-        (λ _ o _. not_both _ e (write-opens s σ m w a o z).goes_on) refl
+        (λ _ o _. not_both _ e (write-opens s σ m w a o z).goes_on_lem) refl
 
   -- a Read
   module _ (σ : State) (m : Lent) (r : Read) (a : List ℕ) where

@@ -1,7 +1,7 @@
 -- One segment: its rules by the way through their tests, and how long it lasts.
 use mathlib.Core.Path.{◌≡◌, ◌∙◌}
 use mathlib.Core.Bool.{Bool, true, false, cond, and-eq-true_iff}
-use Prim.Native.Nat.{ℕ, suc, ◌+◌, ◌-◌, ◌*◌, ◌/◌, ◌≤◌, ◌<◌}
+use Prim.Native.Nat.{ℕ, zero, suc, ◌+◌, ◌-◌, ◌*◌, ◌/◌, ◌≤◌, ◌<◌}
 use native.Mathlib.Nat.{le_trans, mul-suc, suc-mul, div-mul-le_self, lt-div-mul-add, le-div_iff_mul-le, div-lt_iff_lt-mul}
 use native.Mathlib.Omega.{arith}
 use lib.Dec.{eqb, leb, ltb}
@@ -23,6 +23,7 @@ rounded_least a b h = omega (arith, div-mul-le_self (a + (b - 1)) b)
 
 pub rounded_most : (a b : ℕ) → 0 < b → rounded_up a b ≤ a
 unfolding rounded_up
+rounded_most a zero h = elim h [ ]
 rounded_most a (suc b) h =
     let below : a + (suc b - 1) < suc a * suc b = omega (arith, mul-suc (suc a) b, suc-mul a b) in
     let less = (div-lt_iff_lt-mul {k = suc b} {x = a + (suc b - 1)} {y = suc a} (omega arith)).1 below in

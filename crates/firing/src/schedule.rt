@@ -7,7 +7,7 @@ use sha256::bytes;
 
 // What is reported of an entry: the code, and where it is 0 the total of minutes and the highest target.
 #[repr(C)]
-#[derive(Drop)]
+#[derive(Clone, Copy)]
 pub struct Firing {
     pub code: u32,
     pub minutes: u32,

@@ -5,7 +5,7 @@ ghost use Rattle.firing.specs.Schedule.{twos_complement, segment_of, change, sam
 use sha256::bytes;
 
 // A segment: the rate in °C per hour, below 0 when cooling, the target in °C, and the hold in minutes.
-#[derive(Drop)]
+#[derive(Clone, Copy)]
 pub struct Segment {
     pub rate: i16,
     pub target: u16,

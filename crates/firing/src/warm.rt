@@ -8,7 +8,7 @@ use sha256::bytes;
 
 // What is reported of an entry and a range of starts: the code, and where it is 0 the least and the greatest total of minutes.
 #[repr(C)]
-#[derive(Drop)]
+#[derive(Clone, Copy)]
 pub struct Totals {
     pub code: u32,
     pub least: u32,

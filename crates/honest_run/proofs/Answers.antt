@@ -34,7 +34,7 @@ pub record Fit (c : HonestSetup) (L : ℕ → Item) (w a : ℕ) (k : Kept) : Typ
   pub kept-fit : kept_fits (settings_in c a) k ≡ true
   pub low : k.version ≤ w
   pub within : w ≤ 1048576
-  pub digest-ok : 0 < k.version → k.digest ≡ digest_of L k.version
+  pub digest_ok : 0 < k.version → k.digest ≡ digest_of L k.version
   pub items : (i : ℕ) → i < w → ItemOk c L i × SignedOk c L i
   pub counted : user_count (public_to c c.count) ≡ c.count
 
@@ -121,8 +121,8 @@ text-size L i = length-append (be 2 (L i).author) (L i).entry ∙ omega (arith, 
 module _ (c : HonestSetup) (L : ℕ → Item) (w g : ℕ) (two : 2 ≤ c.servers) (sixteen : c.servers ≤ 16) (within : w ≤ 1048576)
     (items : (i : ℕ) → i < w → ItemOk c L i × SignedOk c L i) (want : Want) (ask : CanAsk c w want) where
   -- the level fits its byte
-  level-small : want.level ≤ 20
-  level-small =
+  level_small : want.level ≤ 20
+  level_small =
       cases_eq want.kind 1 (λ e. let x = (ask.status e).1 in omega arith)
       (λ n.
       let h : 2 ≤ want.kind = omega (arith, n, ask.first_kind) in
@@ -159,14 +159,14 @@ module _ (c : HonestSetup) (L : ℕ → Item) (w g : ℕ) (two : 2 ≤ c.servers
         ap length t.told ∙ length-append (be 4 t.position) (be 1 t.level) ∙ omega (arith, be-length 4 t.position, be-length 1 t.level)
 
     -- a hash has 32
-    node-size : want.kind ≡ 2 → length body ≡ 32
+    node_size : want.kind ≡ 2 → length body ≡ 32
     unfolding RightBody
-    node-size e = ap length (right.1 e) ∙ hash_size L want.position want.level
+    node_size e = ap length (right.1 e) ∙ hash_size L want.position want.level
 
     -- an author and an entry have 3 to 1,026
-    operation-size : want.kind ≡ 3 → (3 ≤ length body) × (length body ≤ 1026)
+    operation_size : want.kind ≡ 3 → (3 ≤ length body) × (length body ≤ 1026)
     unfolding RightBody
-    operation-size e =
+    operation_size e =
         let h : 2 ≤ want.kind = omega arith in
         let low = ask.low h in
         let high = ask.high h in
@@ -177,9 +177,9 @@ module _ (c : HonestSetup) (L : ℕ → Item) (w g : ℕ) (two : 2 ≤ c.servers
         (omega arith, omega arith)
 
     -- author, digest and signature
-    record-size : want.kind ≡ 4 → length body ≡ 34 + signature_length (public_to c c.count) (number_at 2 body 0)
+    record_size_lem : want.kind ≡ 4 → length body ≡ 34 + signature_length (public_to c c.count) (number_at 2 body 0)
     unfolding RightBody
-    record-size e =
+    record_size_lem e =
         let h : 2 ≤ want.kind = omega arith in
         let low = ask.low h in
         let high = ask.high h in
@@ -195,16 +195,16 @@ module _ (c : HonestSetup) (L : ℕ → Item) (w g : ℕ) (two : 2 ≤ c.servers
     body-fits =
         cases_eq want.kind 1 (λ e. rw e (eq-eqb _ _ (status-size e)))
         (λ n.
-        cases_eq want.kind 2 (λ e. rw e (eq-eqb _ _ (node-size e)))
+        cases_eq want.kind 2 (λ e. rw e (eq-eqb _ _ (node_size e)))
         (λ m.
-        cases_eq want.kind 3 (λ e. let x = operation-size e in rw (e, le-leb _ _ x.0, le-leb _ _ x.1))
-        (λ o. let e : want.kind ≡ 4 = omega (arith, m, n, o, ask.first_kind, ask.last-kind) in rw e (eq-eqb _ _ (record-size e)))))
+        cases_eq want.kind 3 (λ e. let x = operation_size e in rw (e, le-leb _ _ x.0, le-leb _ _ x.1))
+        (λ o. let e : want.kind ≡ 4 = omega (arith, m, n, o, ask.first_kind, ask.last-kind) in rw e (eq-eqb _ _ (record_size_lem e)))))
 
     -- 10 and 11 pass
     passes : (is_answer (public_to c c.count) want (answer_to want body) ≡ true) × (answer_code (answer_to want body) ≡ 0)
     passes =
         let k = ask.last-kind in
-        let l = level-small in
+        let l = level_small in
         let s = server-small in
         let p = position-small in
         right_answer (public_to c c.count) want body (omega arith) (omega arith) (omega arith) (omega arith) body-fits
@@ -221,7 +221,7 @@ module _ (c : HonestSetup) (L : ℕ → Item) (w g : ℕ) (two : 2 ≤ c.servers
     pub right-body : answer_body (answer_to want body) ≡ body
     right-body =
         let k = ask.last-kind in
-        let l = level-small in
+        let l = level_small in
         let s = server-small in
         let p = position-small in
         answer-body want.kind want.server want.position want.level 0 body (omega arith) (omega arith) (omega arith) (omega arith) (omega arith)

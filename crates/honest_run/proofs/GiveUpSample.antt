@@ -107,7 +107,7 @@ unfolding after returned
 took_open =
     let same : is_open ((at 2).users 1).call ≡ took.call.opened =
     ap (λ (u : User). is_open u.call) user-then
-    ∙ ap (λ b. is_open (cond (b && eqb took.step.code 0) idle (writing took.call))) opens.goes_on in
+    ∙ ap (λ b. is_open (cond (b && eqb took.step.code 0) idle (writing took.call))) opens.goes_on_lem in
     sym same ∙ ap is_open (call_at 2 two).is ∙ open_then
 
 -- and only its first Reserve is handed out

@@ -57,7 +57,7 @@ module _ (c : HonestSetup) (range : InRange c)
     pub on_way : (k : ℕ) → k < n → OnWay c r a i (n - k) (network_after (in_records c) r.network a i k)
     unfolding network_after
     on_way zero h = let e : n - 0 ≡ n = omega arith in rw e started.on_way
-    on_way (suc k) h = (next k (omega arith) (on_way k (omega arith))).goes_on (omega arith)
+    on_way (suc k) h = (next k (omega arith) (on_way k (omega arith))).goes_on_lem (omega arith)
 
     stepped : (k : ℕ) → k < n → Stepped c r a i (n - suc k) (network_after (in_records c) r.network a i k)
     stepped k h = next k h (on_way k h)

@@ -7,7 +7,7 @@ use native.Mathlib.Nat.{mul-le-mul_right}
 use native.Mathlib.Omega.{arith}
 use lib.Dec.{eqb, leb}
 use lib.ListN.{length}
-use borrow.Author.Tests.{le-leb, lt-leb, leb-true, lt-ltb, le-ltb, eq-eqb, ne_eqb, not-true, not-false}
+use borrow.Author.Tests.{le-leb, lt-leb, leb-true, lt-ltb, le-ltb, eq-eqb, ne_eqb}
 use Rattle.sha256.specs.Bytes.{written}
 use Rattle.tree.specs.Level.{lg}
 use Rattle.tree.specs.Label.{label, owner, wait}
@@ -134,8 +134,8 @@ pub level_small : (p l : ℕ) → p ≤ 1048576 → l ≤ lg p → l ≤ 20
 level_small p l h e = omega (arith, lg_below p 20 h)
 
 -- a test that is not passed, and one that is
-pub refused : {a b : Bool} → a ≡ b → not a ≡ true → b ≡ false
-refused {a} {b} e n = sym e ∙ not-true a n
+pub refused : {a b : Bool} → a ≡ b → a ≡ false → b ≡ false
+refused {a} {b} e n = sym e ∙ n
 
-pub passed : {a b : Bool} → a ≡ b → not a ≡ false → b ≡ true
-passed {a} {b} e n = sym e ∙ not-false a n
+pub passed : {a b : Bool} → a ≡ b → a ≡ true → b ≡ true
+passed {a} {b} e n = sym e ∙ n

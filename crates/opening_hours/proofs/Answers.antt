@@ -85,9 +85,9 @@ pub no_length : (ws : List ℕ) (m : ℕ) → m < week → windows_fit ws ≡ tr
 no_length ws m minute fit = begins-at_once ws m 0 minute fit (stretch_open ws 0 m (λ t a b. absurd (omega arith)))
 
 -- The claims.
-pub inputs-refused : InputsRefused
+pub inputs_refused : InputsRefused
 unfolding InputsRefused WindowsFit
-inputs-refused ws m n none =
+inputs_refused ws m n none =
     cases_lt m week
     (λ minute.
     windows_refused ws m n minute

@@ -8,7 +8,7 @@ use firing::schedule;
 
 // What is answered: the code, and where it is 0 the start, in minutes from Monday 0:00 of the week in which the asked minute lies.
 #[repr(C)]
-#[derive(Drop)]
+#[derive(Clone, Copy)]
 pub struct Start {
     pub code: u32,
     pub start: u32,

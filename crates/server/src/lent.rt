@@ -7,7 +7,7 @@ use super::Head;
 use tree::setup::Config;
 
 // What a call on a lent head gives: its code, the store's used length after it, and the length of the answer, 0 where none is written.
-#[derive(Drop)]
+#[derive(Clone, Copy)]
 pub struct Reply {
     pub code: u8,
     pub used: usize,

@@ -21,9 +21,9 @@ module _ (s : Settings) (h : Head) (store : List ℕ) (used : ℕ) (q buffer : L
   after = served s h store used q buffer
 
   -- an answer buffer that passed the setup's checks has room for all of it
-  pub all-given : take after.out.answered after.answer ≡ given s h store used q buffer
+  pub all_given : take after.out.answered after.answer ≡ given s h store used q buffer
   unfolding server_setup_checks
-  all-given =
+  all_given =
       let p = served-passed s h store used q buffer z in
       let room : least_answer ≤ length buffer = leb-true least_answer (length buffer) (passed 20 _ _ (passed 21 _ _ z).1).0 in
       let small : length (given s h store used q buffer) ≤ least_answer = rw p at (answer-at-most_2552 s h store used q buffer) in

@@ -93,9 +93,7 @@ signature-requires c =
 pub returns : goal.returns
 unfolding sign_code signed
 returns c =
-    let args
-    =
-    c.args in
+    let args = c.args in
     let the-ots = c.ots-o.ensures in
     let the-lms = c.lms-l.ensures in
     let tree-size = c.tree_size.ensures in

@@ -10,7 +10,8 @@ use Rattle.lms.proofs.onetime.candidate.Given as goal
 abbrev pub invariant-loop-i : goal.invariant-loop-i
 invariant-loop-i l =
     (l.i ≤ l.p)
-    × (l.ends ≡ streamed (prefix l.id l.q 0x8080 ++ cat (λ j. chain (prefix l.id l.q j) (coef l.d j l.w) (l.k - coef l.d j l.w) (take 32 (drop (32 * j) l.y))) l.i))
+    × (l.ends ≡ streamed (prefix l.id l.q 0x8080 ++ cat
+    (λ j. chain (prefix l.id l.q j) (coef l.d j l.w) (l.k - coef l.d j l.w) (take 32 (drop (32 * j) l.y))) l.i))
 
 abbrev pub decreases-loop-i : goal.decreases-loop-i
 decreases-loop-i l = l.p - l.i

@@ -8,7 +8,6 @@ returns c =
     let be4 = c.be4.ensures in
     let put2 = c.put-2.ensures in
     let be2 = c.be2.ensures in
-    let the-args
-    = c.args in
+    let the-args = c.args in
     prefix-laid the-args.id _ _ _ _ _ _ the-args.r the-args.d (search rules) (search rules) put be4 put2 be2
     c.put-3.ensures

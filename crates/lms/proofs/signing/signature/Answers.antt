@@ -35,12 +35,8 @@ write_chains-requires c =
 
 pub overflow_add-end-2 : goal.overflow_add-end-2
 overflow_add-end-2 c =
-    let pre-0
-    =
-    c.requires.0 in
-    let args
-    =
-    c.args in
+    let pre-0 = c.requires.0 in
+    let args = c.args in
     omega (arith, digits_most args.o pre-0)
 
 pub write_path-requires : goal.write_path-requires
@@ -105,7 +101,11 @@ returns c =
     let the-put4 = c.put-4 in
     let the-pre = c.requires in
     let y = opened a.o a.id (bytes a.seed) a.q (text_hash a.id a.q a.c a.text.now) in
-    let ly : length (cat y a.o.p) ≡ 32 * a.o.p = cat-length y a.o.p (λ i _. opened-length a.o a.id (bytes a.seed) a.q _ i) a.o.p (omega arith) in
+    let ly : length (cat y a.o.p) ≡ 32 * a.o.p = cat-length y a.o.p (λ i _. opened-length a.o a.id (bytes a.seed) a.q _ i) a.o.p
+    (omega arith) in
     let lp = path-length a.l.h a.q the-pre.1.1.0 a.tree.now the-pre.1.1.1.0 in
-    signature-laid a.place.now (u32str a.q) (u32str a.o.otstype) a.c (cat y a.o.p) (u32str a.l.lmstype) (path a.l.h a.tree.now a.q) _ _ _ _ _ _ (40 + 32 * a.o.p) (be-length 4 a.q) (be-length 4 a.o.otstype) the-good.1.1.1.1.1.0.1.0.1 (be-length 4 a.l.lmstype) (omega (arith, ly)) (omega (arith, lp, the-pre.1.1.1.1)) (the-put.ensures ∙ rw
-    the-be4.ensures) (the-put2.ensures ∙ rw the-be42.ensures) the-put3.ensures (the-write-chains.ensures ∙ rw the-text-hash.ensures) (the-put4.ensures ∙ rw the-be43.ensures) write-path
+    signature-laid a.place.now (u32str a.q) (u32str a.o.otstype) a.c (cat y a.o.p) (u32str a.l.lmstype) (path a.l.h a.tree.now a.q) _ _
+    _ _ _ _ (40 + 32 * a.o.p) (be-length 4 a.q) (be-length 4 a.o.otstype) the-good.1.1.1.1.1.0.1.0.1 (be-length 4 a.l.lmstype)
+    (omega (arith, ly)) (omega (arith, lp, the-pre.1.1.1.1)) (the-put.ensures ∙ rw
+    the-be4.ensures) (the-put2.ensures ∙ rw the-be42.ensures) the-put3.ensures (the-write-chains.ensures ∙ rw the-text-hash.ensures)
+    (the-put4.ensures ∙ rw the-be43.ensures) write-path

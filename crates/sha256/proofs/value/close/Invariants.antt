@@ -6,7 +6,8 @@ use Rattle.sha256.proofs.value.close.Given as goal
 
 abbrev pub invariant-loop-left : goal.invariant-loop-left
 invariant-loop-left l =
-    (l.left ≤ 2) × ((length l.block ≡ 64) × ((m : List ℕ) → l.initial.h ≡ hash_value (length m / 64) m → l.rest ≡ rest_of m → l.total ≡ length m % 2 ^ 64 →
+    (l.left ≤ 2) × ((length l.block ≡ 64)
+    × ((m : List ℕ) → l.initial.h ≡ hash_value (length m / 64) m → l.rest ≡ rest_of m → l.total ≡ length m % 2 ^ 64 →
     Pending m l.bits l.left l.h l.block))
 
 abbrev pub decreases-loop-left : goal.decreases-loop-left

@@ -1,0 +1,6 @@
+use Rattle.c_layout.specs.Inner.{config_of}
+use Rattle.c_layout.proofs.numbers.config.Goals as goal
+
+pub returns : goal.returns
+unfolding config_of
+returns c = rw (c.narrow_user.ensures, c.narrow.ensures)

@@ -1,0 +1,10 @@
+use Rattle.c_layout.proofs.UserCalls.{write-begun}
+use Rattle.c_layout.proofs.user_start.write_start.Goals as goal
+
+pub returns : goal.returns
+returns c =
+    let the-config = c.config.ensures in
+    let kept_of = c.kept_of.ensures in
+    let the-start = c.start-left.ensures in
+    write-begun _ _ _ _ _ the-config _ _ kept_of _ _ _ _ _ _ _ _ _ _ _ _ the-start c.lay_write.ensures
+    c.plain_result.ensures

@@ -1,0 +1,6 @@
+use Rattle.kozbrax.specs.Tree.{is_position}
+use Rattle.kozbrax.proofs.label.is_position.Goals as goal
+
+pub returns : goal.returns
+unfolding is_position
+returns c = c.is_within.ensures

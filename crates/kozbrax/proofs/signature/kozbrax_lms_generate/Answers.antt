@@ -1,0 +1,5 @@
+use Rattle.lms.proofs.ByType.{ots_three, lms_six}
+use Rattle.kozbrax.proofs.signature.kozbrax_lms_generate.Goals as goal
+
+pub returns : goal.returns
+returns c = rw (ots_three, lms_six) at c.generate.ensures
