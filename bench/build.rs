@@ -1,4 +1,4 @@
-//! Links the archive of an earlier library beside that of the package kozbrax, where KOZBRAX_BEFORE names the folder target/ of an
+//! Links the archive of an earlier library beside that of the package kozbrax, where KOZBRAX_BEFORE names the folder crates/ of an
 //! earlier repository.
 use std::env;
 use std::path::{Path, PathBuf};
@@ -12,7 +12,7 @@ fn main() {
     println!("cargo:rerun-if-env-changed=KOZBRAX_BEFORE");
     if let Ok(earlier) = env::var("KOZBRAX_BEFORE") {
         println!("cargo:rustc-env=KOZBRAX_BEFORE={earlier}");
-        link_earlier(&Path::new(&earlier).join("staticlib/libkozbrax.a"));
+        link_earlier(&Path::new(&earlier).join("kozbrax/out/libkozbrax.a"));
     }
 }
 

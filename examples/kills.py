@@ -3,16 +3,16 @@ moments.
 
     python3 examples/kills.py [SEED [KILLS]]
 
-It runs target/bin/desk and target/bin/controller, which `rt check desk controller` writes, in a folder of its own, and ends by itself after
-KILLS kills, 150 where nothing is said. Checked are: what a controller was told to be accepted (code 0) is never lost; every entry reads back,
-by both users, with its author; a write that was given up is in no view, and both users can go on after it; once a give-up has begun, nothing
+It runs crates/desk/out/desk and crates/controller/out/controller, which `rt run` in crates/desk and crates/controller leaves, in a folder of
+its own, and ends by itself after KILLS kills, 150 where nothing is said. Checked are: what a controller was told to be accepted (code 0) is
+never lost; every entry reads back, by both users, with its author; a write that was given up is in no view, and both users can go on after it; once a give-up has begun, nothing
 but a give-up goes on; and no signature number is used for two signatures, in any request that left a controller, whether a desk took it in or
 not.
 """
 import hashlib, os, random, re, shutil, signal, subprocess, sys, tempfile, time
 
 ROOT = os.path.dirname(os.path.dirname(os.path.abspath(__file__)))
-DESK, CONTROLLER = (os.path.join(ROOT, "target/bin", name) for name in ("desk", "controller"))
+DESK, CONTROLLER = (os.path.join(ROOT, "crates", name, "out", name) for name in ("desk", "controller"))
 N, NAME, USERS = 4, "firing log no. 1", 2
 
 

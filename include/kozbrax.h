@@ -1,4 +1,4 @@
-/* Kozbrax: the functions of the static library that `rt staticlib kozbrax` writes.
+/* Kozbrax: the functions of the static library that `rt lib` in crates/kozbrax writes.
 
    A slice is passed as a pointer and then its length, in bytes where nothing else is said. The caller sees to it that no pointer is
    NULL, also where the length is 0, that it reaches as many bytes as the length says, that a buffer which is written overlaps no other

@@ -5,7 +5,7 @@ from dataclasses import dataclass
 from scanner import Refused, closing, is_code, joined, neighbour, text_at
 
 # What begins an exported function in the sources.
-MARK = ["#", "[", "no_mangle", "]", "pub", "extern", '"C"', "fn"]
+MARK = ["#", "[", "unsafe", "(", "no_mangle", ")", "]", "pub", "extern", '"C"', "fn"]
 
 C_NUMBERS = {"u8": "uint8_t", "u16": "uint16_t", "u32": "uint32_t", "u64": "uint64_t"}
 
@@ -97,11 +97,11 @@ def taken_out(tokens, where):
     for i, token in enumerate(tokens):
         places = places_of_export(tokens, i) if token.text == "#" else None
         if places:
-            # `#[no_mangle]` and the blank behind it, and `extern "C"` with theirs, go; `pub fn` stays.
-            extern = places[5]
-            skipped.update(range(i, places[4]))
-            skipped.update(range(extern, places[7]))
-            found.append(export_at(tokens, places[8], where))
+            # `#[unsafe(no_mangle)]` and the blank behind it, and `extern "C"` with theirs, go; `pub fn` stays.
+            public, extern, name = MARK.index("pub"), MARK.index("extern"), len(MARK)
+            skipped.update(range(i, places[public]))
+            skipped.update(range(places[extern], places[name - 1]))
+            found.append(export_at(tokens, places[name], where))
         if i not in skipped:
             kept.append(token)
     return kept, found

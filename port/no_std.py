@@ -3,7 +3,7 @@
 
     python3 port/no_std.py [FOLDER]    # where none is named: target/port of the repository
 
-Contracts (`requires`, `ensures`) and `ghost use` lines go. What changes besides is in `rewritten`, and in exports.py for the exported
+Contracts (`requires`, `ensures`), `ghost use` lines and the line `#![tactic(auto)]` go. What changes besides is in `rewritten`, and in exports.py for the exported
 functions; everything else is copied as it stands. The script stops where it meets a form that it does not know.
 """
 import re
@@ -24,7 +24,7 @@ REFUSED_WORDS = set(
     "Self abstract assert assume async await become box break continue decreases do dyn final for ghost in invariant lemma loop macro"
     " measure move override priv proof prove ref static trait try type typeof unsafe unsized variant virtual where yield".split()
 )
-ATTRIBUTES = ["#[repr(C)]"]
+ATTRIBUTES = ["#[repr(C)]", "#[derive(Clone,Copy)]"]
 
 # What Rattle's std is called for, and the function of core that means the same.
 STD_FUNCTIONS = {
@@ -90,7 +90,7 @@ def needed_crates():
         line = line.partition("#")[0].strip()
         if line:
             name, _, needed = line.partition(":")
-            listed[name.strip()] = needed.split()
+            listed[name.split()[0]] = needed.split()
     wanted, found = [LIBRARY], set()
     while wanted:
         name = wanted.pop()
@@ -103,7 +103,7 @@ def needed_crates():
 
 
 def without_ghost_text(tokens, where):
-    """The tokens without ghost uses and contracts. Contracts stand between a function's head and its body, nowhere else."""
+    """The tokens without ghost uses, tactics and contracts. Contracts stand between a function's head and its body, nowhere else."""
     kept = []
     for i, token in enumerate(tokens):
         if token.kind == "contract":
@@ -115,7 +115,7 @@ def without_ghost_text(tokens, where):
             # The blanks before it go with it.
             if kept and kept[-1].kind == "blank":
                 kept.pop()
-        elif token.kind != "ghost_use":
+        elif token.kind not in ("ghost_use", "tactic"):
             kept.append(token)
     return kept
 
@@ -146,17 +146,12 @@ def value_of(number, where):
 def inserted(tokens, where):
     """What is put in before a token, by its place.
 
-    Plain data is copied in Rattle, so structs and enums get `Copy`. A number above 32 bits that a usize is divided by would not be a
-    usize where that has 32 bits: the other side is taken as a u64, which every unsigned number fits.
+    A number above 32 bits that a usize is divided by would not be a usize where that has 32 bits: the other side is taken as a u64, which
+    every unsigned number fits.
     """
     before = {}
     for i, token in enumerate(tokens):
         at, previous = f"{where}:{token.line}", neighbour(tokens, i, -1)
-        if token.text in ("struct", "enum") and token.kind == "word":
-            start = previous if text_at(tokens, previous) == "pub" else i
-            if text_at(tokens, neighbour(tokens, start, -1)) not in ("", ";", "}", "]"):
-                raise Refused(f"{at}: what stands before '{token.text}' is not known")
-            before[start] = "#[derive(Clone, Copy)]\n"
         if token.kind == "number" and value_of(token.text, at) > U32_MAX:
             if text_at(tokens, previous) not in ("%", "/"):
                 raise Refused(f"{at}: the number {token.text} has more than 32 bits, and nothing is divided by it")

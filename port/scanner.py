@@ -19,6 +19,7 @@ class Token:
 TOKEN = re.compile(
     r"""(?P<comment>//[^\n]*)
       | (?P<refused>/\*|[0-9]+\.[0-9])
+      | (?P<tactic>\#!\[tactic\(auto\)\]\n)
       | (?P<blank>[ \t\n]+)
       | (?P<string>b?"(?:[^"\\\n]|\\.)*")
       | (?P<character>b?'(?:[^'\\\n]|\\.)')
@@ -62,9 +63,9 @@ def end_of_ghost_use(text, at, where, line):
 
 def end_of_contract(text, at, where, line):
     """Behind the brace that closes a contract. Quotes and comments, in which a brace would not count, are not known in one."""
-    opened = re.compile(r"\s*\{").match(text, at)
+    opened = re.compile(r"(?: [a-z_]+)?\s*\{").match(text, at)
     if not opened:
-        raise Refused(f"{where}:{line}: a contract has to begin with a brace")
+        raise Refused(f"{where}:{line}: a contract has to begin with a brace, behind its name if it has one")
     depth, at = 1, opened.end()
     while depth > 0:
         if at == len(text):

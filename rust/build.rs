@@ -1,4 +1,4 @@
-//! Links libkozbrax.a: that of the folder which KOZBRAX_LIB_DIR names, else target/staticlib/libkozbrax.a of the repository.
+//! Links libkozbrax.a: that of the folder which KOZBRAX_LIB_DIR names, else crates/kozbrax/out/libkozbrax.a of the repository.
 use std::env;
 use std::path::PathBuf;
 
@@ -8,13 +8,13 @@ fn main() {
         Some(named) => PathBuf::from(named),
         None => {
             let here = PathBuf::from(env::var_os("CARGO_MANIFEST_DIR").expect("cargo names the package's folder"));
-            here.join("../target/staticlib")
+            here.join("../crates/kozbrax/out")
         }
     };
     let archive = folder.join("libkozbrax.a");
     assert!(
         archive.exists(),
-        "no {}: run `rt staticlib kozbrax` at the repository's root, or set KOZBRAX_LIB_DIR to the whole path of the folder that \
+        "no {}: run `rt lib` in the repository's crates/kozbrax, or set KOZBRAX_LIB_DIR to the whole path of the folder that \
          has libkozbrax.a",
         archive.display()
     );

@@ -130,8 +130,8 @@ fn answer(command: &mut Command, input: &str) -> Output {
 
 /// `paths` of the earlier repository and of this one: equal answers, time of whole processes, instructions.
 fn print_programs() {
-    let here = Path::new(env!("CARGO_MANIFEST_DIR")).join("../target");
-    let programs = [Path::new(env!("KOZBRAX_BEFORE")).to_owned(), here].map(|target| target.join("bin/paths"));
+    let here = Path::new(env!("CARGO_MANIFEST_DIR")).join("../crates");
+    let programs = [Path::new(env!("KOZBRAX_BEFORE")).to_owned(), here].map(|crates| crates.join("paths/out/paths"));
     println!("paths; milliseconds for a whole process, best of {RUNS_OF_A_PROGRAM} in turns, and instructions:");
     for last in [1024, 1_048_576] {
         let input = format!("{SERVERS} {last}");

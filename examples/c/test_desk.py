@@ -11,7 +11,7 @@ import ctypes, hashlib, os, random, shutil, signal, subprocess, sys, tempfile, t
 HERE = os.path.dirname(os.path.abspath(__file__))
 DESK = os.path.join(HERE, "desk")
 PROGRAMS = [os.path.abspath(program) for program in sys.argv[2:]]
-ARCHIVE = os.path.join(HERE, "../../target/staticlib/libkozbrax.a")
+ARCHIVE = os.path.join(HERE, "../../crates/kozbrax/out/libkozbrax.a")
 N, NAME = 3, "studio"
 WORK = tempfile.mkdtemp(prefix="kozbrax-test-desk-")
 USERS = os.path.join(WORK, "users")

@@ -2,7 +2,7 @@
 use mathlib.Core.Path.{◌≡◌, refl, ◌∙◌, sym}
 use mathlib.Core.Bool.{Bool, true, false, ◌&&◌}
 use mathlib.Core.List.{List, [], ◌∷◌, ◌++◌, append_assoc}
-use Prim.Native.Nat.{ℕ, zero, suc, ◌+◌, ◌-◌, ◌*◌, ◌≤◌, ◌<◌}
+use Prim.Native.Nat.{ℕ, zero, suc, ◌+◌, ◌*◌, ◌≤◌, ◌<◌}
 use native.Mathlib.Numerals.{add-one}
 use native.Mathlib.Omega.{arith}
 use lib.Dec.{leb}
@@ -24,8 +24,9 @@ unfolding decoded
 decoded-length zero s = refl
 decoded-length (suc n) s = length-append (decoded n s) _ ∙ omega (arith, decoded-length n s)
 
-pub decoded_more : (s out old : List ℕ) (i x y : ℕ) → i < length old → out ≡ decoded i s ++ drop i old → x ≡ digit_value (get_or s (2 * i) 0)
-    → y ≡ digit_value (get_or s (2 * i + 1) 0) → set out i (x * 16 + y) ≡ decoded (i + 1) s ++ drop (i + 1) old
+pub decoded_more : (s out old : List ℕ) (i x y : ℕ) → i < length old → out ≡ decoded i s ++ drop i old
+    → x ≡ digit_value (get_or s (2 * i) 0) → y ≡ digit_value (get_or s (2 * i + 1) 0)
+    → set out i (x * 16 + y) ≡ decoded (i + 1) s ++ drop (i + 1) old
 unfolding decoded
 decoded_more s out old i x y h e ex ey =
     rw (e, drop-cons old i 0 h, add-one)

@@ -1,4 +1,6 @@
 // Text as programs read it: lines, blanks and decimal numbers; in `hex`, hexadecimal digits.
+#![tactic(auto)]
+
 pub mod hex;
 
 ghost use Rattle.std.specs.Prelude.{cond, ◌≡◌, ◌+◌, ◌*◌, ◌%◌, ◌≤◌, ltb, length};
@@ -6,7 +8,7 @@ ghost use Rattle.lines.specs.Text.{is_blank, is_digit, is_other, run, line_lengt
 
 // A number read from a text: its value, at most 9,999,999 (a larger one counts as that), whether a digit was there, and what is
 // left is at `next`.
-#[derive(Drop)]
+#[derive(Clone, Copy)]
 pub struct Digits {
     pub value: u32,
     pub found: bool,

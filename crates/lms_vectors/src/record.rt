@@ -1,21 +1,49 @@
 // A record is a file of lines of hexadecimal digits: the public key, the signature, the text. A key's file has the seed, I and the
 // randomizer.
+ghost use Rattle.std.specs.Prelude.{◌≤◌, length, IfOk};
+
 use crate::report;
 use sha256::bytes;
+use std::io::Read;
+use std::rt::Files;
+use std::{fs, io, str};
 
-// Reads the file with a name and an ending, of at most 64 bytes together, to the start of text, and answers how many bytes it has.
-fn read(name: &[u8], ending: &[u8], text: &mut [u8]) -> usize {
+// Reads the file with a name and an ending, of at most 64 bytes together, to the start of text, and answers how many bytes it has. It says
+// why a file cannot be opened, which then counts as empty.
+fn read(
+    rt: &(impl Files + Eprint),
+    name: &[u8],
+    ending: &[u8],
+    text: &mut [u8],
+) -> io::Result<usize> {
     let mut room = [0u8; 64];
     bytes::put2(&mut room, 0, name, ending);
-    let path = bytes::front(&room, name.len() + ending.len());
-    let fd = os::open_read(path);
-    if fd < 0 {
-        os::fail(path);
-        return 0;
+    let Ok(path) = str::from_utf8(bytes::front(&room, name.len() + ending.len())) else {
+        eprintln!(rt; "a file's name is no text")?;
+        return Ok(0);
+    };
+    match fs::open(rt, path) {
+        Ok(mut file) => read_full(&mut file, text),
+        Err(e) => {
+            eprintln!(rt; "{path}: {e}")?;
+            Ok(0)
+        }
     }
-    let n = io::read_full(fd, text);
-    libc::close(fd);
-    n
+}
+
+// Reads until the text is full or the file ends, and answers how many bytes it put at the start of the text.
+fn read_full(file: &mut impl Read, text: &mut [u8]) -> io::Result<usize>
+    ensures { IfOk result (λ n. n ≤ length text.new) }
+{
+    let mut done = 0;
+    while done < text.len() {
+        let n = file.read(&mut text[done..])?;
+        if n == 0 {
+            break;
+        }
+        done += n;
+    }
+    Ok(done)
 }
 
 // The first line of a text, and what follows it.
@@ -28,7 +56,7 @@ fn after_line(text: &[u8]) -> &[u8] {
 }
 
 // How many bytes the three lines of a file stand for.
-#[derive(Drop)]
+#[derive(Clone, Copy)]
 pub struct Lengths {
     pub first: usize,
     pub second: usize,
@@ -37,30 +65,32 @@ pub struct Lengths {
 
 // Reads a file, and lays what each of its three lines stands for to the front of a buffer, as far as it has room.
 pub fn fields(
+    rt: &(impl Files + Eprint),
     name: &[u8],
     ending: &[u8],
     first: &mut [u8],
     second: &mut [u8],
     third: &mut [u8],
-) -> Lengths {
+) -> io::Result<Lengths> {
     let mut text = [0u8; 8192];
-    let n = read(name, ending, &mut text);
+    let n = read(rt, name, ending, &mut text)?;
     let one = bytes::front(&text, n);
     let two = after_line(one);
-    Lengths {
+    Ok(Lengths {
         first: lines::hex::decode(line(one), first),
         second: lines::hex::decode(line(two), second),
         third: lines::hex::decode(line(after_line(two)), third),
-    }
+    })
 }
 
 // Checks a record's signature and prints the answer.
-pub fn check(name: &[u8]) {
+pub fn check(rt: &(impl Files + Print + Eprint), name: &[u8]) -> io::Result<()> {
     let mut key = [0u8; 56];
     let mut signature = [0u8; 2508];
     let mut message = [0u8; 256];
-    let n = fields(name, b".txt", &mut key, &mut signature, &mut message);
+    let n = fields(rt, name, b".txt", &mut key, &mut signature, &mut message)?;
     report::answer(
+        rt,
         name,
         lms::check(
             6,
@@ -69,5 +99,5 @@ pub fn check(name: &[u8]) {
             bytes::front(&message, n.third),
             bytes::front(&signature, n.second),
         ),
-    );
+    )
 }

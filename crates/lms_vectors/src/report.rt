@@ -1,41 +1,39 @@
 // What is printed: a name and what was computed.
-use libc::STDOUT_FILENO;
 use lms::Checked;
 use sha256::bytes;
+use std::io;
 
-pub fn text(s: &[u8]) {
-    io::write_all(STDOUT_FILENO, s);
+pub fn text(rt: &impl Print, s: &[u8]) -> io::Result<()> {
+    rt.write_all(s)
 }
 
 // A name and a number to a line.
-pub fn code(name: &[u8], what: &[u8], n: u32) {
-    text(name);
-    text(what);
-    io::print_decimal(STDOUT_FILENO, n as u64);
-    text(b"\n");
+pub fn code(rt: &impl Print, name: &[u8], what: &[u8], n: u32) -> io::Result<()> {
+    text(rt, name)?;
+    text(rt, what)?;
+    println!(rt; "{n}")
 }
 
 // A name and bytes in hexadecimal digits to a line.
-pub fn in_hexadecimal(name: &[u8], what: &[u8], s: &[u8]) {
-    text(name);
-    text(what);
+pub fn in_hexadecimal(rt: &impl Print, name: &[u8], what: &[u8], s: &[u8]) -> io::Result<()> {
+    text(rt, name)?;
+    text(rt, what)?;
     let mut i = 0;
     while i < s.len() {
-        io::print_hex(STDOUT_FILENO, bytes::byte_at(s, i) as u64, 2);
+        let byte = bytes::byte_at(s, i);
+        print!(rt; "{byte:02x}")?;
         i += 1;
     }
-    text(b"\n");
+    text(rt, b"\n")
 }
 
 // What a check answered.
-pub fn answer(name: &[u8], c: Checked) {
+pub fn answer(rt: &impl Print, name: &[u8], c: Checked) -> io::Result<()> {
     match c {
         Checked::No => {
-            text(name);
-            text(b": refused\n");
+            text(rt, name)?;
+            text(rt, b": refused\n")
         }
-        Checked::Number(q) => {
-            code(name, b": accepted, number ", q);
-        }
+        Checked::Number(q) => code(rt, name, b": accepted, number ", q),
     }
 }

@@ -33,7 +33,8 @@ put_twice d d' d'' s t a a' a'' m k h p q =
 
 -- the five numbers of a row
 pub row_laid : (n p : ℕ) (d₀ d₁ d₂ d₃ d₄ d₅ : List ℕ) (a₀ a₁ a₂ a₃ a₄ a₅ : ℕ) (l f h g w : ℕ) → a₀ + 105 ≤ length d₀
-    → l ≡ label p 0 → f ≡ cond (eqb n 0) 0 (server_of n (l % n)) → h ≡ lg p → g ≡ cond (eqb n 0) 0 (server_of n ((l + h) % n)) → w ≡ wait p n
+    → l ≡ label p 0 → f ≡ cond (eqb n 0) 0 (server_of n (l % n)) → h ≡ lg p
+    → g ≡ cond (eqb n 0) 0 (server_of n ((l + h) % n)) → w ≡ wait p n
     → Put d₀ a₀ (cell p 32) 21 d₁ a₁ → Put d₁ a₁ (cell l 32) 21 d₂ a₂ → Put d₂ a₂ (cell f 32) 21 d₃ a₃
     → Put d₃ a₃ (cell g 32) 21 d₄ a₄ → Put d₄ a₄ (cell w 10) 21 d₅ a₅ → Put d₀ a₀ (row n p) 105 d₅ a₅
 unfolding row

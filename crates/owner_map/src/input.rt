@@ -6,7 +6,7 @@ use lines::{read_digits, skip_blanks};
 use tree::bools::{at_most, both};
 
 // A table for a count of servers up to a last position, or nothing that can be printed.
-#[derive(Drop)]
+#[derive(Clone, Copy)]
 pub enum Asked {
     Table(u8, u32),
     Refused,

@@ -1,14 +1,14 @@
 // The rows of the table of paths, laid into lent bytes.
-ghost use Rattle.std.specs.Prelude.{◌≡◌, true, ◌+◌, ◌-◌, ◌≤◌, length};
+ghost use Rattle.std.specs.Prelude.{◌≡◌, true, ◌+◌, ◌-◌, ◌<◌, ◌≤◌, length, drop};
 ghost use Rattle.sha256.specs.Bytes.{written};
 ghost use Rattle.tree.specs.Inner.{are_first_labels};
-ghost use Rattle.owner_map.specs.Table.{cell, row, fitting, piece};
+ghost use Rattle.owner_map.specs.Table.{decimal, cell, row, fitting, piece};
 
 use sha256::bytes;
 use tree::{first_labels, label};
 
 // Rows in a buffer: how many bytes they have, and the position of the last of them.
-#[derive(Drop)]
+#[derive(Clone, Copy)]
 pub struct Piece {
     pub length: usize,
     pub done: u32,
@@ -65,7 +65,23 @@ fn append_number(out: &mut [u8], at: usize, number: u64, end: u8) -> usize
         × ((result ≡ at + length (cell number end)) × (result ≤ at + 21)) }
 {
     let mut text = [0u8; 20];
-    let n = io::decimal(number, &mut text);
-    bytes::put2(out, at, &text[..n], &[end]);
-    at + n + 1
+    let first = digits(number, &mut text);
+    bytes::put2(out, at, bytes::from(&text, first), &[end]);
+    at + (20 - first) + 1
+}
+
+// Puts the decimal digits of a number at the end of a text, and answers the place of the first of them.
+fn digits(number: u64, text: &mut [u8; 20]) -> usize
+    ensures within { result < 20 }
+    ensures digits { drop result text.new ≡ decimal number }
+{
+    let mut at = 19;
+    let mut rest = number;
+    while rest >= 10 {
+        text[at] = b'0' + (rest % 10) as u8;
+        rest /= 10;
+        at -= 1;
+    }
+    text[at] = b'0' + rest as u8;
+    at
 }

@@ -21,7 +21,8 @@ ends-line line at d e h = rw (← e, drop_of_length-le line {i = d.next} h)
 blank_first : (s : List ℕ) → 0 < run is_blank s → ends_before s ≡ true
 unfolding run ends_before
 blank_first [] h = refl
-blank_first (b ∷ s) h = by_bool (λ t. 0 < cond t (suc (run is_blank s)) 0 → t ≡ true) (is_blank b) (λ _ _. refl) (λ _ g. absurd (omega arith)) h
+blank_first (b ∷ s) h =
+    by_bool (λ t. 0 < cond t (suc (run is_blank s)) 0 → t ≡ true) (is_blank b) (λ _ _. refl) (λ _ g. absurd (omega arith)) h
 
 -- a number that a blank follows
 pub ends-word : (line : List ℕ) (at : ℕ) (d : Digits) → d ≡ digits_at line at → d.next < after_blanks line d.next → d ≡ whole_number line at
@@ -31,7 +32,8 @@ ends-word line at d e h = rw (← e, blank_first (drop d.next line) (omega arith
 no_blank : (s : List ℕ) → 0 < length s → run is_blank s ≤ 0 → ends_before s ≡ false
 unfolding run ends_before
 no_blank [] l h = absurd (omega arith)
-no_blank (b ∷ s) l h = by_bool (λ t. cond t (suc (run is_blank s)) 0 ≤ 0 → t ≡ false) (is_blank b) (λ _ g. absurd (omega arith)) (λ _ _. refl) h
+no_blank (b ∷ s) l h =
+    by_bool (λ t. cond t (suc (run is_blank s)) 0 ≤ 0 → t ≡ false) (is_blank b) (λ _ g. absurd (omega arith)) (λ _ _. refl) h
 
 -- one that something else follows
 pub goes_on_lem : (line : List ℕ) (at : ℕ) (d : Digits) → d ≡ digits_at line at → d.next < length line

@@ -8,7 +8,7 @@ use crate::number::Range;
 use sha256::bytes;
 
 // What stands behind a command's numbers.
-#[derive(Drop)]
+#[derive(Clone, Copy)]
 pub enum Rest {
     Nothing,
     Text,
@@ -18,7 +18,7 @@ pub enum Rest {
 
 // What a command takes: its word, how many numbers (none where the word is unknown), the ranges of the first and of the second, and what
 // stands behind them.
-#[derive(Drop)]
+#[derive(Clone, Copy)]
 pub struct Form {
     pub word: Word,
     pub numbers: u8,

@@ -1,5 +1,7 @@
 // A line of a studio script: a word, one to four numbers, and a text, the segments of a schedule or the minutes of windows, which take the
 // rest of the line.
+#![tactic(auto)]
+
 mod form;
 mod list;
 mod number;
@@ -17,7 +19,7 @@ use sha256::bytes;
 // How many bytes a script may have.
 pub const MOST: usize = 65536;
 
-#[derive(Drop)]
+#[derive(Clone, Copy)]
 pub enum Word {
     Servers,
     Write,
@@ -41,7 +43,7 @@ pub enum Word {
 // What is wrong with a line: its word; one of its numbers, counted from 1, which is missing or not from a least to a greatest one; a text
 // that is missing or too long; a rate, a target, a hold or a window's minute that is missing or that two bytes do not hold; or that the
 // line has more than its command takes.
-#[derive(Drop)]
+#[derive(Clone, Copy)]
 pub enum Fault {
     Nothing,
     UnknownWord,
@@ -55,7 +57,7 @@ pub enum Fault {
 }
 
 // A command: its word, its numbers, and the place on the line where its text or what it lists begins.
-#[derive(Drop)]
+#[derive(Clone, Copy)]
 pub struct Command {
     pub word: Word,
     pub first: u32,
@@ -67,7 +69,7 @@ pub struct Command {
 }
 
 // The numbers after the word of a line, whether its command takes them or not.
-#[derive(Drop)]
+#[derive(Clone, Copy)]
 struct Numbers {
     first: Digits,
     second: Digits,

@@ -5,7 +5,7 @@ ghost use Rattle.script.specs.Listed.{most as most_of, minute_item, segment_item
 use crate::{Fault, number, segments};
 
 // A segment or a minute that a line lists: what is wrong with it, and what is left of the line is at `next`.
-#[derive(Drop)]
+#[derive(Clone, Copy)]
 struct Item {
     fault: Fault,
     next: usize,

@@ -5,7 +5,7 @@ ghost use Rattle.script.specs.Number.{whole_number, next_number, two_bytes, is_w
 use lines::Digits;
 
 // The numbers from a least to a greatest one.
-#[derive(Drop)]
+#[derive(Clone, Copy)]
 pub struct Range {
     pub least: u32,
     pub most: u32,

@@ -9,7 +9,7 @@ use sha256::bytes;
 
 // A segment that a line lists: its numbers as two bytes hold them, the rate in two's complement; what is wrong with it; and what is left
 // of the line is at `next`.
-#[derive(Drop)]
+#[derive(Clone, Copy)]
 pub struct Listed {
     pub rate: u16,
     pub target: u16,
@@ -19,7 +19,7 @@ pub struct Listed {
 }
 
 // A rate that a line lists: its two bytes, whether the number that is there fits into them, and what is left of the line is at `next`.
-#[derive(Drop)]
+#[derive(Clone, Copy)]
 struct Rate {
     bits: u16,
     fits: bool,

@@ -1,28 +1,29 @@
 // What is printed: a name, how the message was cut where it was, and the digest.
-use libc::STDOUT_FILENO;
 use sha256::bytes;
+use std::io;
 
-pub fn text(s: &[u8]) {
-    io::write_all(STDOUT_FILENO, s);
+pub fn text(rt: &impl Print, s: &[u8]) -> io::Result<()> {
+    rt.write_all(s)
 }
 
-pub fn number(n: usize) {
-    io::print_decimal(STDOUT_FILENO, n as u64);
+pub fn number(rt: &impl Print, n: usize) -> io::Result<()> {
+    print!(rt; "{n}")
 }
 
 // The length of a part, after a mark.
-pub fn part(mark: &[u8], s: &[u8]) {
-    text(mark);
-    number(s.len());
+pub fn part(rt: &impl Print, mark: &[u8], s: &[u8]) -> io::Result<()> {
+    text(rt, mark)?;
+    number(rt, s.len())
 }
 
 // The digest in hexadecimal digits, and the end of the line.
-pub fn digest(d: [u8; 32]) {
-    text(b" ");
+pub fn digest(rt: &impl Print, d: [u8; 32]) -> io::Result<()> {
+    text(rt, b" ")?;
     let mut i = 0;
     while i < 32 {
-        io::print_hex(STDOUT_FILENO, bytes::u32_at(&d, i) as u64, 8);
+        let word = bytes::u32_at(&d, i);
+        print!(rt; "{word:08x}")?;
         i += 4;
     }
-    text(b"\n");
+    text(rt, b"\n")
 }
