@@ -4,6 +4,9 @@ ghost use Rattle.std.specs.Prelude.{◌≡◌, length};
 
 use sha256::bytes;
 use state_files::{file, report, slot};
+use std::fs::{File, Files};
+use std::io;
+use std::random::RandomSource;
 
 // The memory of a key, zero. The `ensures` gives only the length, so that no proof computes with the list.
 pub fn memory() -> [u8; 65616]
@@ -40,78 +43,73 @@ pub fn randomizer(key: &[u8], number: &[u8], entry: &[u8]) -> [u8; 32] {
 }
 
 // Loads the key of a folder, and answers whether it is there and whole.
-pub fn load(folder: &[u8], key: &mut [u8]) -> bool {
-    let n = file::load(folder, b"key", key);
+pub fn load(rt: &(impl Files<File = File> + Eprint), folder: &[u8], key: &mut [u8]) -> bool {
+    let n = file::load(rt, folder, b"key", key);
     if n == 65616 && slot::is_whole(key, b"") {
         return true;
     }
-    report::line(b"the folder has no whole key; `key` makes one");
+    report::line(rt, "the folder has no whole key; `key` makes one");
     false
 }
 
-// Fills a key with random bytes, its tree and the check, and answers whether the system gave the bytes.
-fn fill(key: &mut [u8]) -> bool {
+// Fills a key with random bytes, its tree and the check; an error where the system does not give the bytes.
+fn fill(rt: &impl RandomSource, key: &mut [u8]) -> io::Result<()> {
     let mut random = [0u8; 80];
-    let bytes_of: &mut [u8] = &mut random;
-    if libc::getentropy(bytes_of) != 0 {
-        return false;
-    }
-    bytes::put(key, 0, bytes_of);
+    rt.fill_bytes(&mut random)?;
+    bytes::put(key, 0, &random);
     let id = identifier(key);
     let secret = seed(key);
     let mut tree = [0u8; 65504];
     lms::generate(6, 3, secret, id, &mut tree);
     bytes::put(key, TREE, &tree);
     slot::seal(key, b"");
-    true
+    Ok(())
 }
 
-// Writes the public key of a key, and answers whether it is on its device.
-fn save_public(folder: &[u8], key: &[u8]) -> bool {
-    let mut room = [0u8; 56];
-    let public: &mut [u8] = &mut room;
-    lms::public_key(6, 3, identifier(key), tree(key), public);
-    file::replace(folder, b"public.new", b"public", public)
+// Writes the public key of a key, and sees that it is on its device.
+fn save_public(rt: &impl Files<File = File>, folder: &[u8], key: &[u8]) -> io::Result<()> {
+    let mut public = [0u8; 56];
+    lms::public_key(6, 3, identifier(key), tree(key), &mut public);
+    file::replace(rt, folder, b"public.new", b"public", &public)
 }
 
 // Makes the key of a folder that has none, with a state in which nothing is signed, and answers whether it did. The state comes first: a
 // key is never there without it.
-pub fn make(folder: &[u8]) -> bool {
-    if !file::is_missing(folder, b"key") {
-        report::line(b"key: the folder has a key already, or cannot be read");
+pub fn make<R>(rt: &R, folder: &[u8]) -> bool
+where
+    R: RandomSource + Files<File = File> + Eprint + Alloc,
+{
+    if !file::is_missing(rt, folder, b"key") {
+        report::line(rt, "key: the folder has a key already, or cannot be read");
         return false;
     }
     let mut space = memory();
     let key: &mut [u8] = &mut space;
-    if !fill(key) {
-        os::fail(b"key: no random bytes");
+    if let Err(error) = fill(rt, key) {
+        report::failure(rt, "key: no random bytes", error);
         return false;
     }
-    if save(folder, key) {
-        return true;
+    match save(rt, folder, key) {
+        Ok(()) => true,
+        Err(error) => {
+            report::failure(rt, "key: the folder cannot be written", error);
+            false
+        }
     }
-    os::fail(b"key: the folder cannot be written");
-    false
 }
 
-// Writes the state, the public key and the key, and answers whether all are on their device.
-fn save(folder: &[u8], key: &[u8]) -> bool {
-    if !save_state(folder) {
-        return false;
-    }
-    if !save_public(folder, key) {
-        return false;
-    }
-    file::replace(folder, b"key.new", b"key", key)
+// Writes the state, the public key and the key, and sees that all are on their device.
+fn save(rt: &impl Files<File = File>, folder: &[u8], key: &[u8]) -> io::Result<()> {
+    save_state(rt, folder)?;
+    save_public(rt, folder, key)?;
+    file::replace(rt, folder, b"key.new", b"key", key)
 }
 
 // Writes state 1 of a user: all zero, and of no log yet.
-fn save_state(folder: &[u8]) -> bool {
-    let mut room = [0u8; 4324];
-    let first: &mut [u8] = &mut room;
-    slot::advance(first, b"");
-    let mut space = [0u8; 12516];
-    let whole: &mut [u8] = &mut space;
-    bytes::put(whole, 0, first);
-    file::replace(folder, b"state.new", b"state", whole)
+fn save_state(rt: &impl Files<File = File>, folder: &[u8]) -> io::Result<()> {
+    let mut first = [0u8; 4324];
+    slot::advance(&mut first, b"");
+    let mut whole = [0u8; 12516];
+    bytes::put(&mut whole, 0, &first);
+    file::replace(rt, folder, b"state.new", b"state", &whole)
 }

@@ -1,16 +1,32 @@
 // The links to the servers: for server K the files LINKSK.in, to which requests are written, and LINKSK.out, from which answers are read,
 // where LINKS is argument 6. A link is opened when its server is first asked: the file for requests first, since a server on named pipes
 // opens its input first.
-ghost use Rattle.std.specs.Prelude.{◌≤◌};
+ghost use Rattle.std.specs.Prelude.{◌<◌};
 
-use crate::step;
-use firing::segment;
 use sha256::bytes;
-use state_files::frames;
 use state_files::frames::Frame;
+use state_files::{arguments, file, frames};
+use std::env::Env;
+use std::fs::{File, Files, OpenOptions};
+use std::io;
+use std::io::{Cursor, Write};
 
 // What stands for an answer's length where none came.
 pub const NONE: usize = 65536;
+
+// The two files of a server's link.
+#[derive(Drop)]
+struct Link {
+    requests: File,
+    answers: File,
+}
+
+// The open file of the user's state, and the links that are open, each at the place of its server.
+#[derive(Drop)]
+pub struct Links {
+    state: File,
+    servers: [Option<Link>; 32],
+}
 
 // Lays k digits and an ending from a place on.
 fn lay(digits: &[u8; 20], k: usize, at: usize, ending: &[u8], out: &mut [u8]) {
@@ -18,85 +34,92 @@ fn lay(digits: &[u8; 20], k: usize, at: usize, ending: &[u8], out: &mut [u8]) {
 }
 
 // Lays the name of a server's file: the argument, the server's number and the ending. Answers its length, 0 where it has no room.
-fn name(server: u32, ending: &[u8], out: &mut [u8]) -> usize {
-    let n = os::arg(6, out);
+fn name(rt: &impl Env, server: u32, ending: &[u8], out: &mut [u8]) -> usize {
+    let n = arguments::lay(rt, 6, out);
     if n > 4000 {
         return 0;
     }
     if ending.len() > 4 {
         return 0;
     }
-    let mut digits = [0u8; 20];
-    let k = io::decimal(server as u64, &mut digits) % 32;
-    lay(&digits, k, n, ending, out);
+    let mut digits = Cursor::new([0u8; 20]);
+    if write!(digits, "{server}").is_err() {
+        return 0;
+    }
+    let k = digits.position() as usize % 32;
+    lay(digits.get_ref(), k, n, ending, out);
     n + k + ending.len()
 }
 
-// Opens the file of a server's requests for writing, or that of its answers for reading, and answers a descriptor, or -1.
-fn open_file(server: u32, answers: bool) -> i32 {
-    let mut room = io::buffer();
-    let path: &mut [u8] = &mut room;
+// Opens the file of a server's requests for writing, or that of its answers for reading.
+fn open_file(rt: &(impl Env + Files<File = File>), server: u32, answers: bool) -> io::Result<File> {
+    let mut path = [0u8; 4096];
     if answers {
-        let n = name(server, b".out", path);
-        return os::open_read(bytes::front(path, n));
+        let n = name(rt, server, b".out", &mut path);
+        return file::open_path(rt, bytes::front(&path, n));
     }
-    let n = name(server, b".in", path);
-    os::open_append(bytes::front(path, n))
+    let n = name(rt, server, b".in", &mut path);
+    OpenOptions::new()
+        .append(true)
+        .open(rt, file::text(bytes::front(&path, n))?)
 }
 
-// Where the descriptors of a server's link stand: the requests' first, then the answers', four bytes each. A link that is not open has
-// zeros.
+// Where a server's link stands.
 fn place(server: u32) -> usize
-    ensures { result ≤ 15000 }
+    ensures { result < 32 }
 {
-    step::LINKS + 8 * (server % 32) as usize
+    (server % 32) as usize
 }
 
-// The descriptor at a place.
-fn descriptor(memory: &[u8], at: usize) -> i32 {
-    (bytes::u32_at(memory, at) % 2147483648) as i32
+// The open files at a place.
+fn descriptor(links: &mut Links, at: usize) -> Option<&mut Link> {
+    links.servers.get_mut(at)?.as_mut()
 }
 
-// Keeps the descriptor of the user's state, where that of a server 0 would stand.
-pub fn keep_file(file: i32, memory: &mut [u8]) {
-    // it is not below 0, so its size is the number itself
-    let descriptor = bytes::be4(segment::size(file));
-    bytes::put(memory, step::LINKS, &descriptor);
+// Keeps the file of the user's state, where no link is open.
+pub fn keep_file(state: File) -> Links {
+    Links {
+        state,
+        servers: [const { None }; 32],
+    }
 }
 
-// The descriptor of the user's state.
-pub fn file(memory: &[u8]) -> i32 {
-    descriptor(memory, step::LINKS)
+// The file of the user's state.
+pub fn file(links: &Links) -> &File {
+    &links.state
+}
+
+// Opens both files of a server's link.
+fn open_both(rt: &(impl Env + Files<File = File>), server: u32) -> io::Result<Link> {
+    let requests = open_file(rt, server, false)?;
+    let answers = open_file(rt, server, true)?;
+    Ok(Link { requests, answers })
 }
 
 // Opens a server's link where it is not open. Whether it is open then.
-pub fn open(server: u32, memory: &mut [u8]) -> bool {
+pub fn open(rt: &(impl Env + Files<File = File>), server: u32, links: &mut Links) -> bool {
     let at = place(server);
-    if descriptor(memory, at) > 0 {
+    if links.servers[at].is_some() {
         return true;
     }
-    let requests = open_file(server, false);
-    if requests < 0 {
-        return false;
+    match open_both(rt, server) {
+        Ok(link) => {
+            links.servers[at] = Some(link);
+            true
+        }
+        Err(_) => false,
     }
-    let answers = open_file(server, true);
-    if answers < 0 {
-        return false;
-    }
-    // neither is below 0, so the size of each is the number itself
-    let first = bytes::be4(segment::size(requests));
-    let second = bytes::be4(segment::size(answers));
-    bytes::put2(memory, at, &first, &second);
-    true
 }
 
 // Sends a request to a server, and reads its answer to the front of a buffer. Answers its length, or that none came.
-pub fn ask(server: u32, request: &[u8], memory: &[u8], answer: &mut [u8]) -> usize {
-    let at = place(server);
-    if !frames::send(descriptor(memory, at), request) {
+pub fn ask(server: u32, request: &[u8], links: &mut Links, answer: &mut [u8]) -> usize {
+    let Some(link) = descriptor(links, place(server)) else {
+        return NONE;
+    };
+    if !frames::send(&mut link.requests, request) {
         return NONE;
     }
-    match frames::receive(descriptor(memory, at + 4), answer) {
+    match frames::receive(&mut link.answers, answer) {
         Frame::Whole(n) => n,
         Frame::End => NONE,
         Frame::Cut => NONE,

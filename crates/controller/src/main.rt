@@ -1,5 +1,7 @@
 // A user of a log, one command a run, its key and state in a folder: docs/OPERATING.md. A request leaves once the state is on the folder's
 // device.
+#![tactic(auto)]
+
 mod advice;
 mod board;
 mod call;
@@ -11,10 +13,16 @@ mod step;
 
 ghost use Rattle.std.specs.Prelude.{◌≡◌, length};
 
+use links::Links;
 use programs::print;
 use sha256::bytes;
 use state_files::arguments::LogArguments;
 use state_files::{arguments, file, lock, report, setup, user_file};
+use std::env::Env;
+use std::fs::{File, Files};
+use std::io;
+use std::process::Process;
+use std::random::RandomSource;
 
 // The user's memory, zero. The `ensures` gives only the length, so that no proof computes with the list.
 fn memory() -> [u8; 84134]
@@ -24,133 +32,178 @@ fn memory() -> [u8; 84134]
 }
 
 // Whether argument 7 is a command that takes argument 8, or one that takes none.
-fn is_command(with_argument: bool) -> bool {
+fn is_command(rt: &impl Env, with_argument: bool) -> bool {
     if with_argument {
-        return arguments::is(7, b"write")
-            || arguments::is(7, b"strike")
-            || arguments::is(7, b"read")
-            || arguments::is(7, b"settled");
+        return arguments::is(rt, 7, b"write")
+            || arguments::is(rt, 7, b"strike")
+            || arguments::is(rt, 7, b"read")
+            || arguments::is(rt, 7, b"settled");
     }
-    arguments::is(7, b"update") || arguments::is(7, b"give-up") || arguments::is(7, b"board")
+    arguments::is(rt, 7, b"update")
+        || arguments::is(rt, 7, b"give-up")
+        || arguments::is(rt, 7, b"board")
 }
 
-fn usage() {
-    report::line(b"usage: controller FOLDER key");
-    report::line(b"       controller FOLDER N OWN NAME USERS LINKS update|give-up|board");
+fn usage(rt: &impl Eprint) {
+    report::line(rt, "usage: controller FOLDER key");
     report::line(
-        b"       controller FOLDER N OWN NAME USERS LINKS write TEXT|strike POSITION|read POSITION|settled POSITION",
+        rt,
+        "       controller FOLDER N OWN NAME USERS LINKS update|give-up|board",
     );
     report::line(
-        b"N from 2 to 16, OWN a user of the file USERS, NAME of 1 to 16 bytes, LINKS what the links' names begin with",
+        rt,
+        "       controller FOLDER N OWN NAME USERS LINKS write TEXT|strike POSITION|read POSITION|settled POSITION",
+    );
+    report::line(
+        rt,
+        "N from 2 to 16, OWN a user of the file USERS, NAME of 1 to 16 bytes, LINKS what the links' names begin with",
     );
 }
 
-fn main() {
-    let mut room = io::buffer();
-    let text: &mut [u8] = &mut room;
-    let n = os::arg(1, text);
-    let folder = bytes::front(text, n);
-    if os::arg_count() == 3 && arguments::is(2, b"key") {
-        make_key(folder);
+fn main(rt: HostRuntime) -> io::Result<()> {
+    let mut text = [0u8; 4096];
+    let n = arguments::lay(&rt, 1, &mut text);
+    let folder = bytes::front(&text, n);
+    if arguments::count(&rt) == 3 && arguments::is(&rt, 2, b"key") {
+        make_key(&rt, rt.process(), folder)
     } else {
-        use_log(folder);
+        use_log(&rt, rt.process(), folder)
     }
 }
 
 // Runs a command on a log, where the arguments are such a command's, while the folder's lock is held.
-fn use_log(folder: &[u8]) {
-    let mut list = [0u8; 3640];
-    let public: &mut [u8] = &mut list;
-    let u = arguments::load(5, public);
-    let users = bytes::front(public, u);
-    let g = arguments::read_settings(2, 3, 4);
-    let known = (os::arg_count() == 8 && is_command(false))
-        || (os::arg_count() == 9 && is_command(true));
+fn use_log<R>(rt: &R, own: Process, folder: &[u8]) -> io::Result<()>
+where
+    R: Env + Files<File = File> + Print + Eprint + Alloc,
+{
+    let mut public = [0u8; 3640];
+    let u = arguments::load(rt, 5, &mut public);
+    let users = bytes::front(&public, u);
+    let g = arguments::read_settings(rt, 2, 3, 4);
+    let count = arguments::count(rt);
+    let known = (count == 8 && is_command(rt, false)) || (count == 9 && is_command(rt, true));
     if !known || !arguments::fit(g, (u / 56 % 65) as u32, users) {
-        usage();
-        return;
+        usage(rt);
+        return Ok(());
     }
-    if lock::take(folder) {
-        run(g, folder, users);
-        lock::give_back(folder);
+    if !lock::take(rt, own, folder) {
+        return Ok(());
     }
+    let done = run(rt, g, folder, users);
+    lock::give_back(rt, folder);
+    done
 }
 
 // Makes the key of a folder while its lock is held.
-fn make_key(folder: &[u8]) {
-    if lock::take(folder) {
-        if key::make(folder) {
-            print::text(b"made: key, public, state\n");
-        }
-        lock::give_back(folder);
+fn make_key<R>(rt: &R, own: Process, folder: &[u8]) -> io::Result<()>
+where
+    R: RandomSource + Files<File = File> + Print + Eprint + Alloc,
+{
+    if !lock::take(rt, own, folder) {
+        return Ok(());
+    }
+    let made = key::make(rt, folder);
+    lock::give_back(rt, folder);
+    if made {
+        print::text(rt, b"made: key, public, state\n")?;
+    }
+    Ok(())
+}
+
+// Runs the command with the key and the state of a folder.
+fn run<R>(rt: &R, g: LogArguments, folder: &[u8], users: &[u8]) -> io::Result<()>
+where
+    R: Env + Files<File = File> + Print + Eprint + Alloc,
+{
+    let mut space = key::memory();
+    let keys: &mut [u8] = &mut space;
+    if !key::load(rt, folder, keys) {
+        return Ok(());
+    }
+    match open(rt, folder) {
+        Some(file) => run_state(rt, g, file, users, keys),
+        None => Ok(()),
     }
 }
 
-// Runs the command with the key and the state of a folder. What a killed process left is first brought to the device, since requests
-// speak of it.
-fn run(g: LogArguments, folder: &[u8], users: &[u8]) {
-    let mut space = key::memory();
-    let keys: &mut [u8] = &mut space;
-    if !key::load(folder, keys) {
-        return;
+// Opens the state of a folder. What a killed process left is first brought to the device, since requests speak of it. Where that cannot be
+// done, it says so.
+fn open<R: Files<File = File> + Eprint + Alloc>(rt: &R, folder: &[u8]) -> Option<File> {
+    let file = match file::open_update(rt, folder, b"state") {
+        Ok(file) => file,
+        Err(error) => {
+            report::failure(
+                rt,
+                "the state cannot be opened; where it is lost, the key must not sign any more",
+                error,
+            );
+            return None;
+        }
+    };
+    match file::sync(rt, &file, folder) {
+        Ok(()) => Some(file),
+        Err(error) => {
+            report::failure(rt, "the state cannot be written", error);
+            None
+        }
     }
-    let fd = file::open_update(folder, b"state");
-    if fd < 0 {
-        os::fail(b"the state cannot be opened; where it is lost, the key must not sign any more");
-        return;
-    }
-    if libc::fsync(fd) != 0 || !file::sync_folder(folder) {
-        os::fail(b"the state cannot be written");
-        return;
-    }
-    run_state(g, fd, users, keys);
-    libc::close(fd);
 }
 
 // Runs the command on an open state.
-fn run_state(g: LogArguments, fd: i32, users: &[u8], key: &[u8]) {
+fn run_state<R>(rt: &R, g: LogArguments, file: File, users: &[u8], key: &[u8]) -> io::Result<()>
+where
+    R: Env + Files<File = File> + Print + Eprint + Alloc,
+{
     let mut space = memory();
     let m: &mut [u8] = &mut space;
     step::lay_settings(g, m);
     step::lay_keys(key, users, m);
-    links::keep_file(fd, m);
-    if load(g, fd, users, m) {
-        command::run(m);
+    let mut links = links::keep_file(file);
+    if !load(rt, g, &links, users, m) {
+        return Ok(());
     }
+    command::run(rt, &mut links, m)
 }
 
 // Loads the state that counts. Whether it is there.
-fn load_state(fd: i32, memory: &mut [u8]) -> bool {
-    let mut room = [0u8; 4324];
-    let state: &mut [u8] = &mut room;
-    if !user_file::load(fd, state) {
-        report::line(b"the state is not whole: the key must not sign any more");
+fn load_state(rt: &impl Eprint, file: &File, memory: &mut [u8]) -> bool {
+    let mut state = [0u8; 4324];
+    if !user_file::load(rt, file, &mut state) {
+        report::line(rt, "the state is not whole: the key must not sign any more");
         return false;
     }
-    bytes::put(memory, 0, state);
-    bytes::put(memory, step::SAVED, state);
+    bytes::put(memory, 0, &state);
+    bytes::put(memory, step::SAVED, &state);
     true
 }
 
 // Loads the state that counts. Whether it is there and of this log.
-fn load(g: LogArguments, fd: i32, users: &[u8], memory: &mut [u8]) -> bool {
-    if !load_state(fd, memory) {
+fn load<R: Eprint + Alloc>(
+    rt: &R,
+    g: LogArguments,
+    links: &Links,
+    users: &[u8],
+    memory: &mut [u8],
+) -> bool {
+    if !load_state(rt, links::file(links), memory) {
         return false;
     }
     let name = g.log;
     let mark = setup::hash((g.servers % 256) as u8, (g.own % 256) as u8, name, users);
-    if !bind(mark, memory) {
+    if !bind(rt, mark, memory) {
         return false;
     }
-    if call::replace_older(memory) {
-        return true;
+    match call::replace_older(links, memory) {
+        Ok(()) => true,
+        Err(error) => {
+            report::failure(rt, "the state cannot be written", error);
+            false
+        }
     }
-    os::fail(b"the state cannot be written");
-    false
 }
 
 // Binds the state to a setup where nothing is accepted or signed yet. Whether it is of this setup then.
-fn bind(mark: [u8; 32], memory: &mut [u8]) -> bool {
+fn bind(rt: &impl Eprint, mark: [u8; 32], memory: &mut [u8]) -> bool {
     let none = [0u8; 46];
     if bytes::same(
         bytes::front(bytes::from(memory, user_file::KEPT), 46),
@@ -162,7 +215,10 @@ fn bind(mark: [u8; 32], memory: &mut [u8]) -> bool {
     if bytes::same(setup_of(memory), &mark) {
         return true;
     }
-    report::line(b"the state is of another N, number, name or list of users");
+    report::line(
+        rt,
+        "the state is of another N, number, name or list of users",
+    );
     false
 }
 

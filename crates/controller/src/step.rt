@@ -1,6 +1,6 @@
 // A step of a user's call: its start, or an answer that it takes in. The user's memory is one slice of 84,134 bytes: its state
-// (`user_file`), the state as it was saved last, the call, its hashes, the held entry, the request, the entry that is read and the links;
-// then how many bytes the list of users has, the user's key (`key`) and the list; N, the own number and the log's name.
+// (`user_file`), the state as it was saved last, the call, its hashes, the held entry, the request, the entry that is read and 256 bytes
+// that mean nothing; then how many bytes the list of users has, the user's key (`key`) and the list; N, the own number and the log's name.
 use crate::key;
 use c_layout::user_start;
 use c_layout::user_start::{Asked, SettledAnswer};
@@ -10,7 +10,7 @@ use sha256::bytes;
 use state_files::arguments::LogArguments;
 use state_files::user_file;
 
-// The memory: the state, the state as it was saved last, a call's, the links, the key and the users.
+// The memory: the state, the state as it was saved last, a call's, the key and the users.
 pub const SAVED: usize = 4324;
 
 const CALL: usize = 8648;
@@ -22,8 +22,6 @@ const HELD: usize = 9978;
 pub const REQUEST: usize = 11004;
 
 pub const ENTRY: usize = 13570;
-
-pub const LINKS: usize = 14594;
 
 const LISTED: usize = 14850;
 
@@ -37,8 +35,8 @@ const OWN: usize = 84114;
 
 const LOG: usize = 84118;
 
-// What a step does: 0 takes in an answer, 1 starts an Update, 2 a Write, 3 a Read of the entry at a position, 4 a give_up.
-#[derive(Drop)]
+// What a step does: 0 takes in an answer, 1 starts an Update, 2 a Write, 3 a Read of the entry at a position, 4 a give-up.
+#[derive(Clone, Copy)]
 pub struct Action {
     pub kind: u8,
     pub position: u32,

@@ -10,7 +10,7 @@ use sha256::bytes;
 // N and how many users are listed; where the first server's place begins, how far apart two of them begin and how many bytes each has;
 // where the keys begin. Then how far behind its place the copy of a server begins that the even users are shown, 0 where there is none, and
 // the server that shows all users the same.
-#[derive(Drop)]
+#[derive(Clone, Copy)]
 pub struct Run {
     pub servers: u8,
     pub users: u8,
@@ -24,7 +24,7 @@ pub struct Run {
 
 // A call: the user, the kind of its start (1 an Update, 2 a Write, 3 a Read, 4 a give_up), a number (of a Write the byte that its
 // randomizer repeats, of a Read the position), and how many answers it takes in at most.
-#[derive(Drop)]
+#[derive(Clone, Copy)]
 pub struct Call {
     pub own: u8,
     pub kind: u8,

@@ -64,7 +64,7 @@ pub const ENTRY: usize = 8174;
 // What a step is made with: N, the own number, the kind (1 starts an Update, 2 a Write, 3 a Read, 4 a give_up; 0 takes in an answer), a
 // number (of a Write the byte that its randomizer repeats, of a Read the position), and how many bytes of the user list, the key tree, the
 // request buffer and the entry buffer are lent.
-#[derive(Drop)]
+#[derive(Clone, Copy)]
 pub struct PlaceStep {
     pub servers: u32,
     pub own: u32,

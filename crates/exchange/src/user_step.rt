@@ -13,7 +13,7 @@ use sha256::bytes;
 // What a step is made with: N, the own number, the log's name; the own key's identifier and seed, and a Write's randomizer; the kind (1
 // starts an Update, 2 a Write, 3 a Read, 4 a give_up; 0 takes in an answer) and a Read's position; and how many bytes are lent of the user
 // list, the key tree, the request buffer and the entry buffer.
-#[derive(Drop)]
+#[derive(Clone, Copy)]
 pub struct StepInput {
     pub servers: u32,
     pub own: u32,
@@ -31,7 +31,7 @@ pub struct StepInput {
 
 // Where a user's bytes stand in a slice: what is kept, the path and the signature; the call, its hashes, what it holds, the request and the
 // entry; the user list and the key tree.
-#[derive(Drop)]
+#[derive(Clone, Copy)]
 pub struct Layout {
     pub kept: usize,
     pub path: usize,

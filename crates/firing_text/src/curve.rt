@@ -8,23 +8,22 @@ use firing::segment;
 use firing::segment::Segment;
 use programs::print;
 use sha256::bytes;
+use std::io;
 
 // Draws the curve of a schedule that keeps the rules, with what was reported of it. A firing that never leaves 20 has none, and takes no
 // time where it does not hold either.
-pub(crate) fn draw(entry: &[u8], f: Firing) {
+pub(crate) fn draw(rt: &impl Print, entry: &[u8], f: Firing) -> io::Result<()> {
     if f.minutes == 0 {
-        print::text(b"  the kiln stays at 20 C\n");
-        return;
+        return print::text(rt, b"  the kiln stays at 20 C\n");
     }
     if f.peak <= 20 {
-        print::text(b"  the kiln stays at 20 C\n");
-        return;
+        return print::text(rt, b"  the kiln stays at 20 C\n");
     }
     let mut space = [b' '; 600];
     let marks: &mut [u8] = &mut space;
     mark_segments(entry, f, marks);
-    print_rows(f.peak, marks);
-    print_time(f.minutes);
+    print_rows(rt, f.peak, marks)?;
+    print_time(rt, f.minutes)
 }
 
 // Marks the minutes of all segments with stars. The marks have the rows one after the other, the bottom row first.
@@ -105,32 +104,28 @@ fn row_temperature(row: u16, peak: u32) -> usize
 }
 
 // The rows from the top, each with its temperature.
-fn print_rows(peak: u32, marks: &[u8]) {
+fn print_rows(rt: &impl Print, peak: u32, marks: &[u8]) -> io::Result<()> {
     let mut row: u16 = 10;
     while 0 < row {
         row -= 1;
-        print_right(row_temperature(row, peak), 6);
-        print::text(b" C |");
-        print::text(bytes::front(bytes::from(marks, 60 * row as usize), 60));
-        print::text(b"|\n");
+        print_right(rt, row_temperature(row, peak), 6)?;
+        print::text(rt, b" C |")?;
+        print::text(rt, bytes::front(bytes::from(marks, 60 * row as usize), 60))?;
+        print::text(rt, b"|\n")?;
     }
+    Ok(())
 }
 
 // Below the rows: where the firing begins, and its minutes where it ends.
-fn print_time(minutes: u32) {
-    print::text(b"         +");
-    print::text(&[b'-'; 60]);
-    print::text(b"+\n          0");
-    print_right(minutes as usize, 59);
-    print::text(b" minutes\n");
+fn print_time(rt: &impl Print, minutes: u32) -> io::Result<()> {
+    print::text(rt, b"         +")?;
+    print::text(rt, &[b'-'; 60])?;
+    print::text(rt, b"+\n          0")?;
+    print_right(rt, minutes as usize, 59)?;
+    print::text(rt, b" minutes\n")
 }
 
 // A number with blanks before it, `width` characters where it has no more digits.
-fn print_right(n: usize, width: usize) {
-    let mut digits = [0u8; 20];
-    let k = io::decimal(n as u64, &mut digits);
-    if k < width {
-        print::text(bytes::front(&[b' '; 60], width - k));
-    }
-    print::text(&digits[..k]);
+fn print_right(rt: &impl Print, n: usize, width: usize) -> io::Result<()> {
+    print!(rt; "{n:>width$}")
 }

@@ -10,6 +10,7 @@ use programs::{print, sentence};
 use script::segments;
 use script::segments::Listed;
 use sha256::bytes;
+use std::io;
 
 // Lays the entry of a schedule with the segments that a text lists: the byte 3, how many they are, and six bytes for each. Answers the
 // entry's length, which counts what the memory has no room for too.
@@ -58,75 +59,87 @@ pub(crate) fn segment_at(entry: &[u8], k: u8) -> Segment
 }
 
 // An entry with the first byte of a schedule, in a few words. A stored one need not keep the rules: servers take any bytes.
-pub fn summary(entry: &[u8]) {
+pub fn summary(rt: &impl Print, entry: &[u8]) -> io::Result<()> {
     let f = schedule::report(entry);
     if f.code != 0 {
-        print::number(b"schedule that breaks the rules, code ", f.code as usize);
-        return;
+        return print::number(
+            rt,
+            b"schedule that breaks the rules, code ",
+            f.code as usize,
+        );
     }
     let segments = bytes::byte_at(entry, 1);
     print::filled(
+        rt,
         b"schedule, segments #, minutes #, peak #",
         &[segments as u32, f.minutes, f.peak],
-    );
+    )
 }
 
 // The report from 20; with code 0 the segments and the curve too.
-pub fn print_firing(entry: &[u8]) {
+pub fn print_firing(rt: &impl Print, entry: &[u8]) -> io::Result<()> {
     let f = schedule::report(entry);
-    print::filled(b"code #, minutes #, peak #", &[f.code, f.minutes, f.peak]);
-    end_report(f.code);
+    print::filled(
+        rt,
+        b"code #, minutes #, peak #",
+        &[f.code, f.minutes, f.peak],
+    )?;
+    end_report(rt, f.code)?;
     if f.code == 0 {
-        print_segments(entry);
-        curve::draw(entry, f);
+        print_segments(rt, entry)?;
+        curve::draw(rt, entry, f)?;
     }
+    Ok(())
 }
 
 // The least and the greatest minutes from the starts in a range.
-pub fn print_totals(entry: &[u8], from: u32, to: u32) {
+pub fn print_totals(rt: &impl Print, entry: &[u8], from: u32, to: u32) -> io::Result<()> {
     let t = warm::report(entry, from, to);
     print::filled(
+        rt,
         b"code #, least #, greatest #",
         &[t.code, t.least, t.greatest],
-    );
-    end_report(t.code);
+    )?;
+    end_report(rt, t.code)
 }
 
 // The end of a report's line, and what a refusal says.
-pub(crate) fn end_report(code: u32) {
-    print::text(b"\n");
-    sentence::refusal((code % 256) as u8, 0);
+pub(crate) fn end_report(rt: &impl Print, code: u32) -> io::Result<()> {
+    print::text(rt, b"\n")?;
+    sentence::refusal(rt, (code % 256) as u8, 0)
 }
 
 // A line for each segment.
-fn print_segments(entry: &[u8]) {
+fn print_segments(rt: &impl Print, entry: &[u8]) -> io::Result<()> {
     let count = bytes::byte_at(entry, 1);
     let mut before = 20;
     let mut k: u8 = 0;
     while k < count {
         let s = segment_at(entry, k);
         k += 1;
-        print::number(b"  segment ", k as usize);
-        print_segment(s, segment::minutes(before, s));
+        print::number(rt, b"  segment ", k as usize)?;
+        print_segment(rt, s, segment::minutes(before, s))?;
         before = s.target;
     }
+    Ok(())
 }
 
 // A segment that lasts so many minutes.
-fn print_segment(s: Segment, minutes: u32) {
-    print::text(b": rate ");
-    print_rate(s);
+fn print_segment(rt: &impl Print, s: Segment, minutes: u32) -> io::Result<()> {
+    print::text(rt, b": rate ")?;
+    print_rate(rt, s)?;
     print::filled(
+        rt,
         b", target #, hold #, lasts # minutes\n",
         &[s.target as u32, s.hold as u32, minutes],
-    );
+    )
 }
 
 // A segment's rate, with a minus sign where it cools.
-fn print_rate(s: Segment) {
+fn print_rate(rt: &impl Print, s: Segment) -> io::Result<()> {
     let rate = s.rate as i32;
     if rate < 0 {
-        print::text(b"-");
+        print::text(rt, b"-")?;
     }
-    print::number(b"", segment::size(rate) as usize);
+    print::number(rt, b"", segment::size(rate) as usize)
 }

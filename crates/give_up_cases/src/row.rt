@@ -3,47 +3,47 @@ use crate::{held, report, view, world};
 use exchange::run;
 use programs::{line, print};
 use sha256::bytes;
+use std::io;
 
 // Does what a line says, and prints the line's name and what came of it. A line without a colon is a heading.
-pub fn run(text: &[u8], world: &mut [u8]) {
+pub fn run(rt: &impl Print, text: &[u8], world: &mut [u8]) -> io::Result<()> {
     let n = lines::find(text, b':');
-    print::text(bytes::front(text, n));
+    print::text(rt, bytes::front(text, n))?;
     if text.len() <= n {
-        print::text(b"\n");
-        return;
+        return print::text(rt, b"\n");
     }
     let f = line::numbers(bytes::from(bytes::from(text, n), 2));
-    done(f, world);
-    print::text(b"\n");
+    done(rt, f, world)?;
+    print::text(rt, b"\n")
 }
 
 // What a line does.
-fn done(f: [u32; 16], world: &mut [u8]) {
+fn done(rt: &impl Print, f: [u32; 16], world: &mut [u8]) -> io::Result<()> {
     let own = (f[0] % 256) as u8;
     match f[1] {
-        0 => world::begin(world),
-        5 => answers(own, f[2], world),
-        6 => held::hold_request(own, world),
-        7 => held::hold_answer(own, world),
-        8 => held::take(own, world),
-        9 => held::send(f, world),
-        10 => world::fork(world),
-        11 => view::compare(world),
-        _ => start(f, own, world),
+        0 => world::begin(rt, world),
+        5 => answers(rt, own, f[2], world),
+        6 => held::hold_request(rt, own, world),
+        7 => held::hold_answer(rt, own, world),
+        8 => held::take(rt, own, world),
+        9 => held::send(rt, f, world),
+        10 => world::fork(rt, world),
+        11 => view::compare(rt, world),
+        _ => start(rt, f, own, world),
     }
 }
 
 // The start of a call: an Update, a Write of a letter, or a give_up. The randomizer repeats the letter.
-fn start(f: [u32; 16], own: u8, world: &mut [u8]) {
+fn start(rt: &impl Print, f: [u32; 16], own: u8, world: &mut [u8]) -> io::Result<()> {
     let entry = [1, (f[2] % 256) as u8];
     let r = world::run(world);
     run::step(r, own, (f[1] % 256) as u8, f[2], &entry, world);
-    report::step(own, world);
+    report::step(rt, own, world)
 }
 
 // Some of the servers' answers, taken in.
-fn answers(own: u8, most: u32, world: &mut [u8]) {
+fn answers(rt: &impl Print, own: u8, most: u32, world: &mut [u8]) -> io::Result<()> {
     let n = run::answers(world::run(world), own, most, world);
-    print::number(b": answers ", n as usize);
-    report::step(own, world);
+    print::number(rt, b": answers ", n as usize)?;
+    report::step(rt, own, world)
 }

@@ -6,6 +6,7 @@ use exchange::run::Run;
 use exchange::user_step;
 use programs::{key, print};
 use sha256::bytes;
+use std::io;
 
 // The server that follows the rules.
 pub const HONEST: u8 = 5;
@@ -54,13 +55,13 @@ pub fn run(world: &[u8]) -> Run {
 }
 
 // A new log.
-pub fn begin(world: &mut [u8]) {
+pub fn begin(rt: &impl Print, world: &mut [u8]) -> io::Result<()> {
     bytes::put(world, 0, &[0u8; 117260]);
-    print::text(b": users 1 and 2 have version 0");
+    print::text(rt, b": users 1 and 2 have version 0")
 }
 
 // From now on servers 1 to 4 show user 2 second copies, which begin as the servers are.
-pub fn fork(world: &mut [u8]) {
+pub fn fork(rt: &impl Print, world: &mut [u8]) -> io::Result<()> {
     let mut copies = [0u8; 40960];
     user_step::load(world, FIRST as usize, &mut copies);
     bytes::put2(
@@ -69,5 +70,5 @@ pub fn fork(world: &mut [u8]) {
         &copies,
         &bytes::be4(SECOND),
     );
-    print::text(b": done");
+    print::text(rt, b": done")
 }

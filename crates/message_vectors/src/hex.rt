@@ -1,18 +1,19 @@
 // Bytes in hexadecimal.
-use libc::STDOUT_FILENO;
 use programs::print;
+use std::io;
 
 // All bytes of s as two hexadecimal digits each, after what they are, to the line's end.
-pub fn line(what: &[u8], s: &[u8]) {
-    print::text(what);
+pub fn line(rt: &impl Print, what: &[u8], s: &[u8]) -> io::Result<()> {
+    print::text(rt, what)?;
     let mut at: usize = 0;
     while at < s.len() {
-        io::print_hex(STDOUT_FILENO, byte(s[at]), 2);
+        byte(rt, s[at])?;
         at += 1;
     }
-    print::text(b"\n");
+    print::text(rt, b"\n")
 }
 
-fn byte(b: u8) -> u64 {
-    b as u64
+// A byte as two hexadecimal digits.
+fn byte(rt: &impl Print, b: u8) -> io::Result<()> {
+    print!(rt; "{b:02x}")
 }

@@ -4,49 +4,54 @@ use crate::{call, world};
 use exchange::server_place;
 use programs::{file, key, line, print};
 use sha256::bytes;
+use std::fs::Files;
+use std::io;
 use tree::message;
 
 // All requests, one after the other.
-pub fn requests(world: &mut [u8]) {
-    let mut room = io::buffer();
-    let n = file::read(&mut room);
-    rows(bytes::front(&room, n), world);
+pub fn requests(rt: &(impl Files + Print), world: &mut [u8]) -> io::Result<()> {
+    let mut room = [0u8; 4096];
+    let n = file::read(rt, &mut room)?;
+    rows(rt, bytes::front(&room, n), world)
 }
 
-fn rows(text: &[u8], world: &mut [u8]) {
+fn rows(rt: &impl Print, text: &[u8], world: &mut [u8]) -> io::Result<()> {
     let mut at: usize = 0;
     while at < text.len() {
         let rest = bytes::from(text, at);
         let n = lines::find(rest, b'\n');
-        row(bytes::front(rest, n), world);
+        row(rt, bytes::front(rest, n), world)?;
         at += n + 1;
     }
+    Ok(())
 }
 
 // Prints the name of a line, and sends its request to a server.
-fn row(text: &[u8], world: &mut [u8]) {
+fn row(rt: &impl Print, text: &[u8], world: &mut [u8]) -> io::Result<()> {
     let name = bytes::front(text, lines::find(text, b':'));
     let rest = bytes::from(text, name.len() + 2);
     let numbers = bytes::front(rest, lines::find(rest, b'='));
-    print::text(b"\nRequest: ");
-    print::text(name);
-    print::text(b"\n");
+    print::text(rt, b"\nRequest: ")?;
+    print::text(rt, name)?;
+    print::text(rt, b"\n")?;
     send(
+        rt,
         line::numbers(numbers),
         bytes::from(rest, numbers.len() + 1),
         world,
-    );
+    )
 }
 
 // Sends the request of a line on as many bytes of the server's place as it says.
-fn send(f: [u32; 16], text: &[u8], world: &mut [u8]) {
+fn send(rt: &impl Print, f: [u32; 16], text: &[u8], world: &mut [u8]) -> io::Result<()> {
     let server = (f[0] % 256) as u8;
     let mut space = [0u8; 2566];
     let mut answer = [0u8; 2552];
     let request: &mut [u8] = &mut space;
     let n = lay(f, text, world::server(server, world), request);
     let whole = bytes::front(request, n - line::at_most(f[8], n));
-    call::ask(server, room(f[9]), whole, world, &mut answer);
+    call::ask(rt, server, room(f[9]), whole, world, &mut answer)?;
+    Ok(())
 }
 
 // How many bytes of a place are lent, where 0 stands for all.

@@ -6,6 +6,7 @@ use exchange::run::Run;
 use exchange::{run, server_place};
 use programs::{key, print};
 use sha256::bytes;
+use std::io;
 
 pub const SERVERS: u8 = 4;
 
@@ -69,25 +70,26 @@ pub fn stored_from(own: u8, from: usize, world: &[u8]) -> &[u8] {
 }
 
 // A server's head, as position, level, author and digest, its earlier head after a mark, and how many bytes of its store are used.
-pub fn print_server(own: u8, world: &[u8]) {
+pub fn print_server(rt: &impl Print, own: u8, world: &[u8]) -> io::Result<()> {
     hex::line(
+        rt,
         b"head ",
         bytes::front(server(own, world), server_place::HEAD),
-    );
-    print::number(b"used ", used(own, world));
-    print::text(b"\n");
+    )?;
+    print::number(rt, b"used ", used(own, world))?;
+    print::text(rt, b"\n")
 }
 
 // All servers at the end, with the SHA-256 of the used part of each store.
-pub fn print_servers(world: &[u8]) {
-    print_end(1, world);
-    print_end(2, world);
-    print_end(3, world);
-    print_end(4, world);
+pub fn print_servers(rt: &impl Print, world: &[u8]) -> io::Result<()> {
+    print_end(rt, 1, world)?;
+    print_end(rt, 2, world)?;
+    print_end(rt, 3, world)?;
+    print_end(rt, 4, world)
 }
 
-fn print_end(own: u8, world: &[u8]) {
-    print::filled(b"\nserver #\n", &[own as u32]);
-    print_server(own, world);
-    hex::line(b"hash ", &sha256::hash(stored_from(own, 0, world)));
+fn print_end(rt: &impl Print, own: u8, world: &[u8]) -> io::Result<()> {
+    print::filled(rt, b"\nserver #\n", &[own as u32])?;
+    print_server(rt, own, world)?;
+    hex::line(rt, b"hash ", &sha256::hash(stored_from(own, 0, world)))
 }

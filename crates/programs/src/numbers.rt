@@ -1,7 +1,6 @@
 // Numbers that a text lists with blanks between them. One below 0 stands for its two's complement in four bytes, so that -1 is
 // 4,294,967,295; one with more than seven digits counts as 9,999,999.
-ghost use Rattle.std.specs.Prelude.{◌≡◌, length};
-ghost use Rattle.io.specs.Counts.{IsPrefixLen};
+ghost use Rattle.std.specs.Prelude.{◌≡◌, ◌≤◌, length, take};
 ghost use Rattle.sha256.specs.Bytes.{written};
 ghost use Rattle.programs.specs.Listed.{negated as negated_of, signed_at, after as after_word, numbers_in};
 
@@ -24,7 +23,7 @@ pub fn after(text: &[u8]) -> &[u8]
 
 // Lays the numbers of a text one after the other from the front of out, as many as have room there, and answers how many they are.
 pub fn lay(text: &[u8], out: &mut [u32]) -> usize
-    ensures prefix_len { IsPrefixLen result out.new }
+    ensures prefix_len { (result ≤ length out.new) × (result ≡ length (take result out.new)) }
     ensures value { (result ≡ length (numbers_in text.now (length out.old)))
         × (out.new ≡ written out.old 0 (numbers_in text.now (length out.old))) }
 {

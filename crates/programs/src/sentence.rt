@@ -1,24 +1,26 @@
 // What a code says, in the words of document 01's table; 26 to 28 and 32 to 34 are document 02's.
 use crate::print;
+use std::io;
 
 // The sentence of a refusal, and of the server's where the code is 11. Nothing for 0.
-pub fn refusal(code: u8, servers_code: u8) {
+pub fn refusal(rt: &impl Print, code: u8, servers_code: u8) -> io::Result<()> {
     if code == 0 {
-        return;
+        return Ok(());
     }
-    print::text(b"  refused: ");
+    print::text(rt, b"  refused: ")?;
     if code == 11 {
-        print::text(b"the server says: ");
-        of_server(servers_code);
+        print::text(rt, b"the server says: ")?;
+        of_server(rt, servers_code)?;
     } else {
-        of_user(code);
+        of_user(rt, code)?;
     }
-    print::text(b"\n");
+    print::text(rt, b"\n")
 }
 
 // Codes 1 to 9 and 27, which servers give.
-fn of_server(code: u8) {
+fn of_server(rt: &impl Print, code: u8) -> io::Result<()> {
     print::said_of(
+        rt,
         code as u32,
         b"1 the request is misshapen or its author is not listed\n\
         2 this is another log\n\
@@ -31,13 +33,14 @@ fn of_server(code: u8) {
         9 the store has no room for this record\n\
         27 the head has another position, author or digest than the write that is given up, or no earlier head\n\
         else a code that no server has",
-    );
+    )
 }
 
 // Codes that a user gives: 10 and 12 to 16 for what the answers say; 17 to 24 for what the user has or was asked to do, with 23 for a Read;
 // 26 for a schedule, 28 for a give-up, 32 for a warm kiln's starts, and 33 and 34 for opening hours.
-fn of_user(code: u8) {
+fn of_user(rt: &impl Print, code: u8) -> io::Result<()> {
     print::said_of(
+        rt,
         code as u32,
         b"10 the answer is misshapen or not to this request\n\
         12 the greatest and the least label of the heads are N or more apart\n\
@@ -59,5 +62,5 @@ fn of_user(code: u8) {
         33 the minute or the number of windows is out of range, or a window is empty, out of range, out of order or overlapping\n\
         34 no start within a week has its every minute in windows\n\
         else a code that no user has",
-    );
+    )
 }

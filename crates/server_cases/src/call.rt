@@ -5,6 +5,7 @@ use c_layout::serving::Served;
 use exchange::server_place;
 use programs::{key, line, print};
 use sha256::bytes;
+use std::io;
 use tree::digest;
 
 // How many bytes a server's place, its store and the answer buffer have.
@@ -34,7 +35,13 @@ pub fn usual(own: u32, request: u32, place: &[u8]) -> [u32; 12] {
 }
 
 // The call with these settings. What it leaves is printed, and is in the place.
-pub fn serve(s: [u32; 12], keys: &[u8], place: &mut [u8], request: &[u8])
+pub fn serve(
+    rt: &impl Print,
+    s: [u32; 12],
+    keys: &[u8],
+    place: &mut [u8],
+    request: &[u8],
+) -> io::Result<()>
     requires { length place.old ≡ 8232 }
 {
     lay(s, place);
@@ -42,12 +49,13 @@ pub fn serve(s: [u32; 12], keys: &[u8], place: &mut [u8], request: &[u8])
     let room = line::at_most(s[10], ANSWER);
     let mut answer = [0u8; ANSWER];
     lent(
+        rt,
         s,
         keys,
         &mut place[0..end],
         bytes::front(request, s[9] as usize),
         &mut answer[0..room],
-    );
+    )
 }
 
 // Lays the head and the used length of the settings; the digest and the earlier head are the place's.
@@ -59,47 +67,56 @@ fn lay(s: [u32; 12], place: &mut [u8]) {
 }
 
 // The call on a place with a store, and on an answer buffer, of the lengths that the settings name.
-fn lent(s: [u32; 12], keys: &[u8], place: &mut [u8], request: &[u8], answer: &mut [u8]) {
+fn lent(
+    rt: &impl Print,
+    s: [u32; 12],
+    keys: &[u8],
+    place: &mut [u8],
+    request: &[u8],
+    answer: &mut [u8],
+) -> io::Result<()> {
     let users = bytes::front(keys, s[3] as usize);
     let out = server_place::serve(s[1], s[2], users, place, request, answer);
-    report(out, place, answer);
+    report(rt, out, place, answer)
 }
 
 // What a call gave, and the place and the answer buffer that it left, to the line's end.
-fn report(out: Served, place: &[u8], answer: &[u8]) {
-    print::number(b": code ", out.code as usize);
-    report_head(b" head # # # ", place);
-    report_earlier(place);
-    print::number(b" used ", out.used as usize);
-    print::number(b" answered ", out.answer as usize);
+fn report(rt: &impl Print, out: Served, place: &[u8], answer: &[u8]) -> io::Result<()> {
+    print::number(rt, b": code ", out.code as usize)?;
+    report_head(rt, b" head # # # ", place)?;
+    report_earlier(rt, place)?;
+    print::number(rt, b" used ", out.used as usize)?;
+    print::number(rt, b" answered ", out.answer as usize)?;
     print::digest_start(
+        rt,
         b" store ",
         sha256::hash(bytes::from(place, server_place::STORE)),
-    );
-    print::digest_start(b" answer ", sha256::hash(answer));
-    print::text(b"\n");
+    )?;
+    print::digest_start(rt, b" answer ", sha256::hash(answer))?;
+    print::text(rt, b"\n")
 }
 
 // A head: position, level, author and digest.
-fn report_head(what: &[u8], head: &[u8]) {
+fn report_head(rt: &impl Print, what: &[u8], head: &[u8]) -> io::Result<()> {
     let level = bytes::byte_at(head, server_place::LEVEL);
     let author = bytes::u16_at(head, server_place::AUTHOR);
     let position = bytes::u32_at(head, 0);
-    print::filled(what, &[position, level as u32, author as u32]);
+    print::filled(rt, what, &[position, level as u32, author as u32])?;
     print::digest_start(
+        rt,
         b"",
         digest::piece(bytes::from(head, server_place::DIGEST), 0),
-    );
+    )
 }
 
 // The earlier head, where one is known.
-fn report_earlier(place: &[u8]) {
+fn report_earlier(rt: &impl Print, place: &[u8]) -> io::Result<()> {
     if bytes::byte_at(place, server_place::KNOWN) == 0 {
-        print::text(b" no earlier");
-        return;
+        return print::text(rt, b" no earlier");
     }
     report_head(
+        rt,
         b" earlier # # # ",
         bytes::from(place, server_place::EARLIER),
-    );
+    )
 }

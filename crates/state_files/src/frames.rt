@@ -2,10 +2,12 @@
 ghost use Rattle.std.specs.Prelude.{◌≡◌};
 ghost use Rattle.state_files.specs.Frame.{frame_length, framed};
 
+use crate::file;
 use sha256::bytes;
+use std::io::{Read, Write};
 
 // What came from a stream: a whole message and its length, the stream's end, or the beginning of a frame and then the end.
-#[derive(Drop)]
+#[derive(Clone, Copy)]
 pub enum Frame {
     Whole(usize),
     End,
@@ -13,10 +15,10 @@ pub enum Frame {
 }
 
 // Reads a frame, its message to the front of the buffer. A message that is longer than the buffer counts as cut.
-pub fn receive(fd: i32, message: &mut [u8]) -> Frame {
+pub fn receive(input: &mut impl Read, message: &mut [u8]) -> Frame {
     let mut two = [0u8; 2];
     let length: &mut [u8] = &mut two;
-    let came = io::read_full(fd, length);
+    let came = file::read_full(input, length);
     if came == 0 {
         return Frame::End;
     }
@@ -24,7 +26,7 @@ pub fn receive(fd: i32, message: &mut [u8]) -> Frame {
         return Frame::Cut;
     }
     let n = bytes::u16_at(length, 0) as usize;
-    if fill(fd, message, n) {
+    if fill(input, message, n) {
         Frame::Whole(n)
     } else {
         Frame::Cut
@@ -32,14 +34,14 @@ pub fn receive(fd: i32, message: &mut [u8]) -> Frame {
 }
 
 // Reads n bytes to the front of the buffer, and answers whether all came.
-fn fill(fd: i32, buffer: &mut [u8], n: usize) -> bool {
+fn fill(input: &mut impl Read, buffer: &mut [u8], n: usize) -> bool {
     if buffer.len() < n {
         return false;
     }
     if n == 0 {
         return true;
     }
-    io::read_full(fd, &mut buffer[..n]) == n
+    file::read_full(input, &mut buffer[..n]) == n
 }
 
 // Lays the frame of a message at the front of out, and answers its length. A message of more than 4,094 bytes has none: 0, and nothing is
@@ -56,12 +58,11 @@ fn lay(message: &[u8], out: &mut [u8]) -> usize
 }
 
 // Writes a frame by one call, and answers whether it went out. A message of more than 4,094 bytes does not.
-pub fn send(fd: i32, message: &[u8]) -> bool {
-    let mut frame = io::buffer();
-    let out: &mut [u8] = &mut frame;
-    let n = lay(message, out);
+pub fn send(output: &mut impl Write, message: &[u8]) -> bool {
+    let mut out = [0u8; 4096];
+    let n = lay(message, &mut out);
     if n == 0 {
         return false;
     }
-    io::write_all(fd, bytes::front(out, n))
+    output.write_all(bytes::front(&out, n)).is_ok()
 }

@@ -6,6 +6,8 @@ ghost use Rattle.state_files.specs.Older.{user_is_older, user_now};
 
 use crate::{file, report, slot};
 use sha256::bytes;
+use std::fs::File;
+use std::io;
 
 pub const SETUP: usize = 8;
 
@@ -21,15 +23,13 @@ pub const ENTRY: usize = 3268;
 
 pub const SECOND: u32 = 8192;
 
-// Saves the next state of a user, and answers whether it is on its device. The slot is that of the next state in any case.
-pub fn save(fd: i32, s: &mut [u8]) -> bool
+// Saves the next state of a user, and sees that it is on its device. The slot is that of the next state in any case.
+pub fn save(file: &File, s: &mut [u8]) -> io::Result<()>
     ensures { s.new ≡ advanced s.old [] }
 {
     slot::advance(s, b"");
-    if !file::write_at(fd, s, slot::place(slot::number_at(s, 0), SECOND)) {
-        return false;
-    }
-    libc::fsync(fd) == 0
+    file::write_at(file, s, slot::place(slot::number_at(s, 0), SECOND))?;
+    file.sync_all()
 }
 
 // Whether a slot is of version 0.1.0, in which 42 bytes were kept: whole as that laid it, and not as slots are laid now.
@@ -58,41 +58,41 @@ fn renew(s: &mut [u8; 4324])
 }
 
 // Reads the slot at a place, and answers whether it could be read: that of version 0.1.0 has 4,320 bytes.
-fn read_slot(fd: i32, at: u32, s: &mut [u8; 4324]) -> bool {
-    let n = file::read_from(fd, at, s);
+fn read_slot(file: &File, at: u32, s: &mut [u8; 4324]) -> bool {
+    let n = file::read_from(file, at, s);
     renew(s);
     n == 4324 || n == 4320
 }
 
 // Copies the slot that counts to s, and answers whether there is one.
-fn choose(first: &[u8; 4324], second: &[u8; 4324], s: &mut [u8]) -> bool {
+fn choose(rt: &impl Eprint, first: &[u8; 4324], second: &[u8; 4324], s: &mut [u8]) -> bool {
     let one = slot::is_whole(first, b"");
     let two = slot::is_whole(second, b"");
-    report::cut_slots(first, one, second, two);
+    report::cut_slots(rt, first, one, second, two);
     slot::choose(first, one, second, two, s)
 }
 
 // Loads the state that counts to s, and answers whether there is one. A file that cannot be read whole has none: a slot that was not read
 // is not taken for one that was cut.
-pub fn load(fd: i32, s: &mut [u8]) -> bool {
+pub fn load(rt: &impl Eprint, file: &File, s: &mut [u8]) -> bool {
     let mut first = [0u8; 4324];
     let mut second = [0u8; 4324];
-    if !read_slot(fd, 0, &mut first) {
+    if !read_slot(file, 0, &mut first) {
         return false;
     }
-    if !read_slot(fd, SECOND, &mut second) {
+    if !read_slot(file, SECOND, &mut second) {
         return false;
     }
-    choose(&first, &second, s)
+    choose(rt, &first, &second, s)
 }
 
 // Whether one of the two slots is of version 0.1.0, whose programs would go on from it.
-pub fn has_older(fd: i32) -> bool {
-    is_older_at(fd, 0) || is_older_at(fd, SECOND)
+pub fn has_older(file: &File) -> bool {
+    is_older_at(file, 0) || is_older_at(file, SECOND)
 }
 
-fn is_older_at(fd: i32, at: u32) -> bool {
+fn is_older_at(file: &File, at: u32) -> bool {
     let mut s = [0u8; 4324];
-    file::read_from(fd, at, &mut s);
+    file::read_from(file, at, &mut s);
     is_older(&s)
 }

@@ -6,48 +6,62 @@ use crate::{report, world};
 use exchange::{run, user_place};
 use programs::{place, print};
 use sha256::bytes;
+use std::io;
 
 // From now on every server but one keeps two copies.
-pub fn begin(honest: u32, world: &mut [u8]) {
+pub fn begin(rt: &impl Print, honest: u32, world: &mut [u8]) -> io::Result<()> {
     if world::is_forked(world) {
-        print::text(b"  the log is forked already\n");
-        return;
+        return print::text(rt, b"  the log is forked already\n");
     }
     world::fork((honest % 256) as u8, world);
     report::forked(
+        rt,
         world::servers(world),
         world::honest(world),
         world::common(world),
-    );
+    )
 }
 
 // What is to be said after a user's Update or Write on a forked log.
-pub fn after(own: u8, open_before: bool, world: &mut [u8]) {
+pub fn after(rt: &impl Print, own: u8, open_before: bool, world: &mut [u8]) -> io::Result<()> {
     let operation = report::next(run::version(own, world));
-    notice(own, operation, open_before, world);
+    notice(rt, own, operation, open_before, world)?;
     if world::is_forked(world) {
-        compare(own, own % 3 + 1, world);
-        compare(own, (own % 3 + 1) % 3 + 1, world);
+        compare(rt, own, own % 3 + 1, world)?;
+        compare(rt, own, (own % 3 + 1) % 3 + 1, world)?;
     }
+    Ok(())
 }
 
 // Says whether the refusal of a user's last step, at an operation, shows the fork.
-pub fn notice(own: u8, operation: u32, open_before: bool, world: &[u8]) {
+pub fn notice(
+    rt: &impl Print,
+    own: u8,
+    operation: u32,
+    open_before: bool,
+    world: &[u8],
+) -> io::Result<()> {
     if !world::is_forked(world) {
-        return;
+        return Ok(());
     }
     let place = place::of(own, world);
     let code = bytes::byte_at(place, user_place::CODE);
     if !shows(code, bytes::byte_at(place, user_place::REFUSAL)) {
-        return;
+        return Ok(());
     }
     if open_before && may_wait(code) {
-        print::text(
+        return print::text(
+            rt,
             b"  a write was open, which can be the reason: this alone does not show the fork\n",
         );
-        return;
     }
-    report::noticed(world::servers(world), world::common(world), own, operation);
+    report::noticed(
+        rt,
+        world::servers(world),
+        world::common(world),
+        own,
+        operation,
+    )
 }
 
 // Whether a refusal shows that a server broke the rules, where no write was open. Servers that all follow them give no answer that a
@@ -69,12 +83,20 @@ fn may_wait(code: u8) -> bool {
 }
 
 // Compares the views of two users: says where their reads differ first, if they do.
-fn compare(a: u8, b: u8, world: &mut [u8]) {
+fn compare(rt: &impl Print, a: u8, b: u8, world: &mut [u8]) -> io::Result<()> {
     let shorter = run::shorter(a, b, world);
     let d = first_difference(a, b, shorter, world);
     if d != 0 {
-        report::difference(world::servers(world), a, b, d, report::next(shorter - d));
+        report::difference(
+            rt,
+            world::servers(world),
+            a,
+            b,
+            d,
+            report::next(shorter - d),
+        )?;
     }
+    Ok(())
 }
 
 // The first position up to `shorter` that two users read differently; 0 where there is none.

@@ -2,28 +2,44 @@
 // docs/STUDIO.md lists the commands. Printed are each step's code, its answers and what the user keeps, entries and boards, a schedule's
 // times, its curve and when it may begin, and, once the servers keep two copies of the log, where the users' views differ, against Q, and
 // who notices it.
+#![tactic(auto)]
+
 mod board;
 mod fork;
 mod report;
 mod run;
 mod world;
 
-use libc::STDIN_FILENO;
 use sha256::bytes;
+use std::io;
+use std::io::{Input, Read};
 
-fn main() {
+fn main(rt: HostRuntime) -> io::Result<()> {
     let mut space = script::memory();
-    let n = io::read_full(STDIN_FILENO, &mut space);
+    let n = read_input(&rt, &mut space)?;
     let text = bytes::front(&space, n);
     if script::is_too_long(text) {
-        report::too_long();
-        return;
+        return report::too_long(&rt);
     }
-    lines_of(text);
+    lines_of(&rt, text)
+}
+
+// Reads standard input until text is full or the input ends, and answers how many bytes came to the start of text.
+fn read_input(rt: &impl Input, text: &mut [u8]) -> io::Result<usize> {
+    let mut input = rt.reader();
+    let mut done = 0;
+    while done < text.len() {
+        let n = input.read(&mut text[done..])?;
+        if n == 0 {
+            break;
+        }
+        done += n;
+    }
+    Ok(done)
 }
 
 // Runs the lines one after the other, on four servers until the script says otherwise.
-fn lines_of(text: &[u8]) {
+fn lines_of(rt: &impl Print, text: &[u8]) -> io::Result<()> {
     let mut memory = world::zeros();
     let world: &mut [u8] = &mut memory;
     world::make_keys(world);
@@ -34,7 +50,8 @@ fn lines_of(text: &[u8]) {
         let rest = bytes::from(text, at);
         let line = bytes::front(rest, lines::line_length(rest));
         number += 1;
-        run::line(line, number, world);
+        run::line(rt, line, number, world)?;
         at += lines::find(rest, b'\n') + 1;
     }
+    Ok(())
 }

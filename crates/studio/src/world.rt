@@ -151,7 +151,7 @@ fn begin_user(own: u8, world: &mut [u8]) {
 }
 
 fn begin_servers(world: &mut [u8]) {
-    let none = io::large_buffer();
+    let none = [0u8; 65536];
     let mut k: usize = 0;
     while k < 32 {
         k += 1;
@@ -161,7 +161,7 @@ fn begin_servers(world: &mut [u8]) {
 
 // The servers' second copies begin as the servers are.
 fn copy(world: &mut [u8]) {
-    let mut space = io::large_buffer();
+    let mut space = [0u8; 65536];
     let one: &mut [u8] = &mut space;
     let mut k: usize = 0;
     while k < 16 {

@@ -3,63 +3,63 @@ use crate::{answer, case, report, step, work};
 use exchange::{run, user_place};
 use programs::print;
 use sha256::bytes;
+use std::io;
 
 // Does what a line says, and prints the line's name and what came of it.
-pub fn run(text: &[u8], world: &mut [u8]) {
+pub fn run(rt: &impl Print, text: &[u8], world: &mut [u8]) -> io::Result<()> {
     let n = lines::find(text, b':');
-    print::text(bytes::front(text, n));
-    copied(bytes::from(bytes::from(text, n), 2), world);
-    print::text(b"\n");
+    print::text(rt, bytes::front(text, n))?;
+    copied(rt, bytes::from(bytes::from(text, n), 2), world)?;
+    print::text(rt, b"\n")
 }
 
 // Does what a line says on copies of its place and of the servers, and leaves them where the line says, if it does.
-fn copied(text: &[u8], world: &mut [u8]) {
+fn copied(rt: &impl Print, text: &[u8], world: &mut [u8]) -> io::Result<()> {
     let mut space = work::copies();
     let work: &mut [u8] = &mut space;
     work::load(world, case::number(text, 1), work);
     case::patch(text, 3000, work);
-    done(text, work);
+    done(rt, text, work)?;
     let left = case::number(text, 2);
     if left != 0 {
         work::keep(world, left, work);
     }
+    Ok(())
 }
 
 // What a line does, and what is printed of it: nothing, whether a position is settled, a Write that is cut and resumed, or a step.
-fn done(text: &[u8], work: &mut [u8]) {
+fn done(rt: &impl Print, text: &[u8], work: &mut [u8]) -> io::Result<()> {
     let what = case::number(text, 3);
     if what == 0 {
-        return;
+        return Ok(());
     }
     if what == 4 {
-        report::settled(text, work);
-        return;
+        return report::settled(rt, text, work);
     }
     if what == 7 {
-        cut(text, work);
-        return;
+        return cut(rt, text, work);
     }
-    stepped(text, what, work);
-    report::state(work);
+    stepped(rt, text, what, work)?;
+    report::state(rt, work)
 }
 
 // Some of the servers' answers, a made-up answer, or the start of a Write or of another call.
-fn stepped(text: &[u8], what: u32, work: &mut [u8]) {
+fn stepped(rt: &impl Print, text: &[u8], what: u32, work: &mut [u8]) -> io::Result<()> {
     let number = case::number(text, 4);
     if what == 5 {
         let n = answers(text, number as usize, work);
-        print::number(b": answers ", n);
-        return;
+        return print::number(rt, b": answers ", n);
     }
     if what == 6 {
         answer::made(text, work);
-        return;
+        return Ok(());
     }
     if what == 2 {
         start_write(text, case::number(text, 7), work);
-        return;
+        return Ok(());
     }
     step::step(text, kind(what), number, b"", work);
+    Ok(())
 }
 
 // The kind of the start that a line says: 1 an Update, 3 a Read, 8 a give_up.
@@ -92,17 +92,16 @@ fn answers(text: &[u8], most: usize, work: &mut [u8]) -> usize {
 
 // A Write that is cut after some answers, its last request arriving or not, and resumed to its end with a randomizer that may be
 // another. A Write that had ended is not resumed.
-fn cut(text: &[u8], work: &mut [u8]) {
+fn cut(rt: &impl Print, text: &[u8], work: &mut [u8]) -> io::Result<()> {
     start_write(text, 1, work);
     let before = answers(text, case::number(text, 7) as usize, work);
-    print::number(b": answers ", before);
-    report::step(work);
+    print::number(rt, b": answers ", before)?;
+    report::step(rt, work)?;
     if user_place::ended(work) {
-        report::servers(work);
-        return;
+        return report::servers(rt, work);
     }
     arrive(case::number(text, 8) == 1, work);
-    resume(text, work);
+    resume(rt, text, work)
 }
 
 // The request that is out arrives, if it does, and its answer is lost.
@@ -115,11 +114,11 @@ fn arrive(does: bool, work: &mut [u8]) {
 }
 
 // Starts the Write of a line anew, with what is kept, the path and the signature alone left over, and takes it to its end.
-fn resume(text: &[u8], work: &mut [u8]) {
+fn resume(rt: &impl Print, text: &[u8], work: &mut [u8]) -> io::Result<()> {
     user_place::forget(work);
     start_write(text, case::number(text, 9), work);
     let after = answers(text, run::ALL as usize, work);
-    print::number(b"; resumed, answers ", after);
-    report::step(work);
-    report::servers(work);
+    print::number(rt, b"; resumed, answers ", after)?;
+    report::step(rt, work)?;
+    report::servers(rt, work)
 }
