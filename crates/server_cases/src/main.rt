@@ -6,7 +6,7 @@
 
 mod call;
 mod row;
-mod user;
+mod sent;
 
 ghost use Rattle.std.specs.Prelude.{◌≡◌, length};
 

@@ -2,7 +2,7 @@
 // the code from 0: the server at 0, whether it is kept at 1, the request from 2 to 9, and three changes from 10 on.
 ghost use Rattle.std.specs.Prelude.{◌≡◌, length};
 
-use crate::{call, user};
+use crate::{call, sent};
 use exchange::server_place;
 use programs::{line, print};
 use sha256::bytes;
@@ -34,7 +34,7 @@ fn made(rt: &impl Print, f: [u32; 16], place: &mut [u8], keys: &[u8]) -> io::Res
     requires { length place.old ≡ 8232 }
 {
     let mut request = [0u8; 2600];
-    let n = user::request(f, keys, &mut request);
+    let n = sent::request(f, keys, &mut request);
     let s = call::usual(f[0], n, place);
     line::patch(&mut request, 100, 0, f[10], f[11]);
     call::serve(rt, line::changed(s, f), keys, place, &request)
