@@ -1,3 +1,4 @@
+-- The level is given, so that no list is computed.
 use mathlib.Core.Path.{sym}
 use Prim.Native.Nat.{ℕ}
 use lib.ListN.{length-replicate}

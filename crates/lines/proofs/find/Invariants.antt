@@ -1,3 +1,4 @@
+-- `find` answers a place within s: every byte before it is another than b. What is left of s falls with each turn.
 use mathlib.Core.Path.{◌≡◌}
 use Prim.Native.Nat.{◌≤◌, ◌+◌, ◌-◌}
 use lib.ListN.{length, drop}

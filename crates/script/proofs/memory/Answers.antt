@@ -1,3 +1,4 @@
+-- The level is given so that no list is unfolded.
 use mathlib.Core.Path.{refl, sym}
 use Prim.Native.Nat.{ℕ}
 use lib.ListN.{length-replicate}

@@ -1,3 +1,4 @@
+-- What is left to list falls with each segment or minute.
 use mathlib.Core.Path.{◌≡◌}
 use Prim.Native.Nat.{◌≤◌, ◌-◌}
 use Rattle.script.specs.Listed.{list_fault}

@@ -1,3 +1,4 @@
+-- A frame is laid by one copy of the length's two bytes and the message.
 use Rattle.state_files.proofs.Framed.{no_frame, frame-laid}
 use Rattle.state_files.proofs.frames.lay.Goals as goal
 
