@@ -100,7 +100,7 @@ fn read_answer(
     user_start::result(step, left.found)
 }
 
-// An answer taken in by a give_up.
+// An answer taken in by a give-up.
 fn give_up_answer(
     config: Config,
     users: &[u8],

@@ -151,7 +151,7 @@ pub fn read_start(
     result(step, left.found)
 }
 
-// Starts a give_up of the open write, or repeats one that has begun. What is kept says from then on that it has.
+// Starts a give-up of the open write, or repeats one that has begun. What is kept says from then on that it has.
 pub fn give_up_start(
     servers: u32,
     own: u32,

@@ -207,7 +207,7 @@ pub fn lay_read(code: u8, r: Read, call: &mut [u8])
     lay(code, &after, call);
 }
 
-// The give_up that a call's bytes stand for.
+// The give-up that a call's bytes stand for.
 pub fn give_up_of(b: [u8; 82]) -> GiveUp
     ensures { result ≡ give_up_of b }
 {
@@ -216,7 +216,7 @@ pub fn give_up_of(b: [u8; 82]) -> GiveUp
     }
 }
 
-// Lays a give_up after a step, where the step's code is 0.
+// Lays a give-up after a step, where the step's code is 0.
 pub fn lay_give_up(code: u8, g: GiveUp, call: &mut [u8])
     ensures { call.new ≡ call_after code (call_bytes (giving_up g)) call.old }
 {

@@ -22,7 +22,7 @@ pub struct Run {
     pub honest: u8,
 }
 
-// A call: the user, the kind of its start (1 an Update, 2 a Write, 3 a Read, 4 a give_up), a number (of a Write the byte that its
+// A call: the user, the kind of its start (1 an Update, 2 a Write, 3 a Read, 4 a give-up), a number (of a Write the byte that its
 // randomizer repeats, of a Read the position), and how many answers it takes in at most.
 #[derive(Clone, Copy)]
 pub struct Call {

@@ -13,7 +13,7 @@ use programs::{key, place};
 use sha256::bytes;
 
 // What is kept, from the place's first byte on: version, digest, number, and whether a write is open and signed; of an open write the
-// levels that a Reserve was handed out for, whether its PutOperation was, whether a give_up has begun, and the last server that is done.
+// levels that a Reserve was handed out for, whether its PutOperation was, whether a give-up has begun, and the last server that is done.
 pub const DIGEST: usize = 4;
 
 pub const NUMBER: usize = 36;
@@ -32,7 +32,7 @@ pub const DONE: usize = 45;
 
 pub const CALL: usize = 46;
 
-// The last step: which start came last (1 Update, 2 Write, 3 Read, 4 give_up), the code and the server's, whether the call has ended, the
+// The last step: which start came last (1 Update, 2 Write, 3 Read, 4 give-up), the code and the server's, whether the call has ended, the
 // author and the length of the entry that a Read found; and the server that was asked last, with the length of the request.
 pub const KIND: usize = 128;
 
@@ -61,7 +61,7 @@ pub const REQUEST: usize = 5608;
 
 pub const ENTRY: usize = 8174;
 
-// What a step is made with: N, the own number, the kind (1 starts an Update, 2 a Write, 3 a Read, 4 a give_up; 0 takes in an answer), a
+// What a step is made with: N, the own number, the kind (1 starts an Update, 2 a Write, 3 a Read, 4 a give-up; 0 takes in an answer), a
 // number (of a Write the byte that its randomizer repeats, of a Read the position), and how many bytes of the user list, the key tree, the
 // request buffer and the entry buffer are lent.
 #[derive(Clone, Copy)]

@@ -11,7 +11,7 @@ use programs::line;
 use sha256::bytes;
 
 // What a step is made with: N, the own number, the log's name; the own key's identifier and seed, and a Write's randomizer; the kind (1
-// starts an Update, 2 a Write, 3 a Read, 4 a give_up; 0 takes in an answer) and a Read's position; and how many bytes are lent of the user
+// starts an Update, 2 a Write, 3 a Read, 4 a give-up; 0 takes in an answer) and a Read's position; and how many bytes are lent of the user
 // list, the key tree, the request buffer and the entry buffer.
 #[derive(Clone, Copy)]
 pub struct StepInput {

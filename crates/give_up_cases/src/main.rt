@@ -1,6 +1,6 @@
 // What the premises of document 02, e, are for: views that part for longer than Q where one of them does not hold. N is 5, and server 5
 // alone follows the rules; the others show users 1 and 2 two copies of the log from position 2 on. At last a log that ends, since a Reserve
-// arrives after its give_up. Each line of data/cases.txt is one step, and data/README.md says what its numbers mean and what is printed.
+// arrives after its give-up. Each line of data/cases.txt is one step, and data/README.md says what its numbers mean and what is printed.
 #![tactic(auto)]
 
 mod held;

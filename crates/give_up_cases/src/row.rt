@@ -33,7 +33,7 @@ fn done(rt: &impl Print, f: [u32; 16], world: &mut [u8]) -> io::Result<()> {
     }
 }
 
-// The start of a call: an Update, a Write of a letter, or a give_up. The randomizer repeats the letter.
+// The start of a call: an Update, a Write of a letter, or a give-up. The randomizer repeats the letter.
 fn start(rt: &impl Print, f: [u32; 16], own: u8, world: &mut [u8]) -> io::Result<()> {
     let entry = [1, (f[2] % 256) as u8];
     let r = world::run(world);

@@ -96,7 +96,7 @@ pub extern "C" fn kozbrax_read_start(
     )
 }
 
-// Starts a give_up of the open write, or repeats one that has begun. What is kept says from then on that it has.
+// Starts a give-up of the open write, or repeats one that has begun. What is kept says from then on that it has.
 #[unsafe(no_mangle)]
 pub extern "C" fn kozbrax_give_up_start(
     servers: u32,

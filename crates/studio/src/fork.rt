@@ -77,7 +77,7 @@ fn shows(code: u8, refusal: u8) -> bool {
 }
 
 // Whether an open write can be the reason of a refusal: of 11, since servers have a head whose Commit they do not have, and of 12 where its
-// give_up was cut, since servers are told in the order of their numbers and some heads are behind then.
+// give-up was cut, since servers are told in the order of their numbers and some heads are behind then.
 fn may_wait(code: u8) -> bool {
     code == 11 || code == 12
 }

@@ -65,7 +65,7 @@ fn update(rt: &impl Print, own: u8, world: &mut [u8]) -> io::Result<()> {
     fork::after(rt, own, open_before, world)
 }
 
-// A give_up of the open write. No server that follows the rules refuses one but with 27, which ends it like 0.
+// A give-up of the open write. No server that follows the rules refuses one but with 27, which ends it like 0.
 fn give_up(rt: &impl Print, own: u8, most: u32, world: &mut [u8]) -> io::Result<()> {
     let c = Call {
         own,

@@ -21,7 +21,7 @@ fn hash(rt: &impl Print, what: &[u8], place: &[u8], at: usize, n: usize) -> io::
 }
 
 // The code of the last step and the server's, whether its call has ended, and what is kept but for the digest: of an open write the levels
-// that a Reserve was handed out for, whether its PutOperation was, whether its give_up has begun, and the last server that is done.
+// that a Reserve was handed out for, whether its PutOperation was, whether its give-up has begun, and the last server that is done.
 pub fn step(rt: &impl Print, place: &[u8]) -> io::Result<()> {
     print::filled(
         rt,

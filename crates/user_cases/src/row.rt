@@ -62,7 +62,7 @@ fn stepped(rt: &impl Print, text: &[u8], what: u32, work: &mut [u8]) -> io::Resu
     Ok(())
 }
 
-// The kind of the start that a line says: 1 an Update, 3 a Read, 8 a give_up.
+// The kind of the start that a line says: 1 an Update, 3 a Read, 8 a give-up.
 fn kind(what: u32) -> u8 {
     if what == 8 {
         return 4;

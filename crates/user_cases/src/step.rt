@@ -51,7 +51,7 @@ pub fn prepare(text: &[u8], kind: u8, number: u32, place: &mut [u8]) -> PlaceSte
     settings(text, kind, number)
 }
 
-// The start of an Update, of a Write of an entry, of a Read or of a give_up, or an answer taken in.
+// The start of an Update, of a Write of an entry, of a Read or of a give-up, or an answer taken in.
 pub fn step(text: &[u8], kind: u8, number: u32, input: &[u8], work: &mut [u8]) {
     let s = prepare(text, kind, number, work);
     user_place::step(s, 1, work::KEYS, input, work);
