@@ -1,7 +1,8 @@
-// Text as programs read it: lines, blanks and decimal numbers; in `hex`, hexadecimal digits.
+// Text as programs read it: lines, blanks and decimal numbers; in `hex`, hexadecimal digits, in `input`, reading until a text is full.
 #![tactic(auto)]
 
 pub mod hex;
+pub mod input;
 
 ghost use Rattle.std.specs.Prelude.{cond, ◌≡◌, ◌+◌, ◌*◌, ◌%◌, ◌≤◌, ltb, length};
 ghost use Rattle.lines.specs.Text.{is_blank, is_digit, is_other, run, line_length, digits_at, after_blanks};

@@ -1,10 +1,8 @@
 // A record is a file of lines of hexadecimal digits: the public key, the signature, the text. A key's file has the seed, I and the
 // randomizer.
-ghost use Rattle.std.specs.Prelude.{◌≤◌, length, IfOk};
-
 use crate::report;
+use lines::input;
 use sha256::bytes;
-use std::io::Read;
 use std::rt::Files;
 use std::{fs, io, str};
 
@@ -23,27 +21,12 @@ fn read(
         return Ok(0);
     };
     match fs::open(rt, path) {
-        Ok(mut file) => read_full(&mut file, text),
+        Ok(mut file) => input::read_full(&mut file, text),
         Err(e) => {
             eprintln!(rt; "{path}: {e}")?;
             Ok(0)
         }
     }
-}
-
-// Reads until the text is full or the file ends, and answers how many bytes it put at the start of the text.
-fn read_full(file: &mut impl Read, text: &mut [u8]) -> io::Result<usize>
-    ensures { IfOk result (λ n. n ≤ length text.new) }
-{
-    let mut done = 0;
-    while done < text.len() {
-        let n = file.read(&mut text[done..])?;
-        if n == 0 {
-            break;
-        }
-        done += n;
-    }
-    Ok(done)
 }
 
 // The first line of a text, and what follows it.

@@ -9,7 +9,7 @@ use std::io;
 use tree::message;
 
 // All requests, one after the other.
-pub fn requests(rt: &(impl Files + Print), world: &mut [u8]) -> io::Result<()> {
+pub fn requests(rt: &(impl Files + Print + Eprint), world: &mut [u8]) -> io::Result<()> {
     let mut room = [0u8; 4096];
     let n = file::read(rt, &mut room)?;
     rows(rt, bytes::front(&room, n), world)

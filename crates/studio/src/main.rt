@@ -10,32 +10,18 @@ mod report;
 mod run;
 mod world;
 
+use lines::input;
 use sha256::bytes;
 use std::io;
-use std::io::{Input, Read};
 
 fn main(rt: HostRuntime) -> io::Result<()> {
     let mut space = script::memory();
-    let n = read_input(&rt, &mut space)?;
+    let n = input::read_full(&mut rt.reader(), &mut space)?;
     let text = bytes::front(&space, n);
     if script::is_too_long(text) {
         return report::too_long(&rt);
     }
     lines_of(&rt, text)
-}
-
-// Reads standard input until text is full or the input ends, and answers how many bytes came to the start of text.
-fn read_input(rt: &impl Input, text: &mut [u8]) -> io::Result<usize> {
-    let mut input = rt.reader();
-    let mut done = 0;
-    while done < text.len() {
-        let n = input.read(&mut text[done..])?;
-        if n == 0 {
-            break;
-        }
-        done += n;
-    }
-    Ok(done)
 }
 
 // Runs the lines one after the other, on four servers until the script says otherwise.

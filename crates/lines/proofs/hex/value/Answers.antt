@@ -10,9 +10,6 @@ pub returns-then-digit : goal.returns-then-digit
 unfolding digit_value
 returns-then-digit c = (rw c.if-digit.true, omega (arith, within 48 57 c.args.digit c.if-digit.true))
 
-pub overflow_sub-result-then-digit-2 : goal.overflow_sub-result-then-digit-2
-overflow_sub-result-then-digit-2 c = omega (arith, within 97 102 c.args.digit c.if-digit-2.true)
-
 pub returns-then-digit-2 : goal.returns-then-digit-2
 unfolding digit_value
 returns-then-digit-2 c = (rw (c.if-digit.false, c.if-digit-2.true), omega (arith, within 97 102 c.args.digit c.if-digit-2.true))

@@ -1,9 +1,0 @@
--- `read_full` is safe and ends. The room that is left falls with each read.
-use Rattle.std.proofs.Common.{◌≤◌, ◌-◌, length}
-use Rattle.programs.proofs.file.read_full.Given as goal
-
-abbrev pub invariant-loop-done : goal.invariant-loop-done
-invariant-loop-done g l = l.done ≤ length l.text
-
-abbrev pub decreases-loop-done : goal.decreases-loop-done
-decreases-loop-done g l = length l.initial.text - l.done
