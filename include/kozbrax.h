@@ -155,8 +155,8 @@ uint32_t kozbrax_lms_sign(const uint8_t *seed, const uint8_t *id, uint32_t numbe
 uint32_t kozbrax_lms_check(const uint8_t *key, size_t key_len, const uint8_t *text, size_t text_len,
                            const uint8_t *signature, size_t signature_len);
 
-/* The first label of position p's path. Returns KOZBRAX_NONE where p is not 1 to 1,048,576. Up to 1,024 it is looked up in a table,
-   which is copied to the stack for that: 4,112 bytes. */
+/* The first label of position p's path. Returns KOZBRAX_NONE where p is not 1 to 1,048,576. Up to 1,024 it is looked up in a table of
+   the library's own, which is not copied. */
 uint32_t kozbrax_first_label(uint32_t p);
 
 /* The server, of `servers`, that owns node (p, l).

@@ -3,8 +3,8 @@
 
     python3 port/no_std.py [FOLDER]    # where none is named: target/port of the repository
 
-Contracts (`requires`, `ensures`), `ghost use` lines and the line `#![tactic(auto)]` go. What changes besides is in `rewritten`, and in exports.py for the exported
-functions; everything else is copied as it stands. The script stops where it meets a form that it does not know.
+Contracts (`requires`, `ensures`), ghost lines, `#[derive(Drop)]`, the bound `Drop` and the line `#![tactic(auto)]` go. What changes besides is in `rewritten`,
+and in exports.py for the exported functions; everything else is copied as it stands. The script stops where it meets a form that it does not know.
 """
 import re
 import shutil
@@ -19,18 +19,18 @@ LIBRARY = "kozbrax"
 
 # The keywords that the sources may have outside ghost text. Every other keyword of Rust, and every word that could begin a ghost
 # form, is refused.
-KEYWORDS = set("as const crate else enum extern false fn if impl let match mod mut pub return self struct super true use while".split())
-REFUSED_WORDS = set(
-    "Self abstract assert assume async await become box break continue decreases do dyn final for ghost in invariant lemma loop macro"
-    " measure move override priv proof prove ref static trait try type typeof unsafe unsized variant virtual where yield".split()
+KEYWORDS = set(
+    "as const crate else enum extern false fn for if impl in let match mod mut pub ref return self static struct super true type use while".split()
 )
-ATTRIBUTES = ["#[repr(C)]", "#[derive(Clone,Copy)]"]
+REFUSED_WORDS = set(
+    "abstract assert assume async await become box break continue decreases do dyn final ghost invariant lemma loop macro"
+    " measure move override priv proof prove trait try typeof unsafe unsized variant virtual where yield".split()
+)
+ATTRIBUTES = ["#[repr(C)]", "#[derive(Clone,Copy)]", "#[derive(Clone,Copy,PartialEq,Eq)]", "#[inline(never)]"]
+# Rattle's own: that a value may be dropped, as every value may in Rust; and the same as a bound of a type parameter.
+DROP = "#[derive(Drop)]\n"
+DROP_BOUND = "<T: Drop>"
 
-# What Rattle's std is called for, and the function of core that means the same.
-STD_FUNCTIONS = {
-    f"std::num::wrapping_{name}_{kind}": f"{kind}::wrapping_{name}"
-    for name in ("add", "sub") for kind in ("u8", "u16", "u32", "u64", "usize")
-}
 U32_MAX = 2**32 - 1
 
 HEAD = "// Written by port/no_std.py from crates/{crate}/src/{source}: change it there.\n"
@@ -108,14 +108,14 @@ def without_ghost_text(tokens, where):
     for i, token in enumerate(tokens):
         if token.kind == "contract":
             before, behind = neighbour(tokens, i, -1), neighbour(tokens, i, 1)
-            head_ends = before is not None and (tokens[before].kind in ("contract", "word") or text_at(tokens, before) in (")", "]"))
+            head_ends = before is not None and (tokens[before].kind in ("contract", "word") or text_at(tokens, before) in (")", "]", ">", ">>"))
             body_begins = behind is not None and (tokens[behind].kind == "contract" or text_at(tokens, behind) == "{")
             if not head_ends or not body_begins:
                 raise Refused(f"{where}:{token.line}: a contract that is not between a function's head and its body")
             # The blanks before it go with it.
             if kept and kept[-1].kind == "blank":
                 kept.pop()
-        elif token.kind not in ("ghost_use", "tactic"):
+        elif token.kind not in ("ghost_line", "tactic"):
             kept.append(token)
     return kept
 
@@ -127,6 +127,8 @@ def check_forms(tokens, where):
         behind = neighbour(tokens, i, 1)
         if token.kind == "word" and (token.text in REFUSED_WORDS or token.text == "extern"):
             raise Refused(f"{at}: the word '{token.text}' is not known in a source of the library")
+        if token.kind == "word" and token.text == "std":
+            raise Refused(f"{at}: a use of std, which no_std crates have not")
         if token.kind == "word" and token.text not in KEYWORDS and text_at(tokens, behind) == "!":
             raise Refused(f"{at}: the macro '{token.text}!' is not known")
         if token.text == "#" and token.kind == "symbol":
@@ -159,26 +161,17 @@ def inserted(tokens, where):
     return before
 
 
-def with_core_functions(text, where):
-    """The text with calls of Rattle's std as calls of core."""
-    for ours, of_core in STD_FUNCTIONS.items():
-        text = text.replace(f"{ours}(", f"{of_core}(")
-    if any(token.text == "std" for token in scan(text, where) if token.kind == "word"):
-        raise Refused(f"{where}: a use of std that is not known")
-    return text
-
-
 def rewritten(source, crate):
     """A source as Rust, and the exports in it."""
     where = str(source.relative_to(ROOT))
-    tokens = without_ghost_text(scan(source.read_text(), where), where)
+    tokens = without_ghost_text(scan(source.read_text().replace(DROP, "").replace(DROP_BOUND, "<T>"), where), where)
     found = []
     if crate == LIBRARY:
         tokens, found = exports.taken_out(tokens, where)
     check_forms(tokens, where)
     before = inserted(tokens, where)
     text = joined([Token("", before.get(i, "") + token.text, 0) for i, token in enumerate(tokens)])
-    return with_core_functions(text, where) + (exports.exported_module(found) if found else ""), found
+    return text + (exports.exported_module(found) if found else ""), found
 
 
 def write_crate(folder, crate, needed):

@@ -26,7 +26,7 @@ TOKEN = re.compile(
       | (?P<lifetime>'[a-z_]+)
       | (?P<number>[0-9][0-9A-Za-z_]*)
       | (?P<word>[A-Za-z_][A-Za-z0-9_]*)
-      | (?P<symbol><<=|>>=|\.\.=|::|->|=>|==|!=|<=|>=|&&|\|\||<<|>>|\.\.|[-+*/%&|^]=|[-+*/%&|^!<>=.,;:(){}\[\]\#])
+      | (?P<symbol><<=|>>=|\.\.=|::|->|=>|==|!=|<=|>=|&&|\|\||<<|>>|\.\.|[-+*/%&|^]=|[-+*/%&|^!<>=.,;:?@(){}\[\]\#])
     """,
     re.VERBOSE,
 )
@@ -36,7 +36,7 @@ OPENING = {"(": ")", "[": "]", "{": "}"}
 
 
 def scan(text, where):
-    """The tokens of a source, in order; joined they are the source. Ghost text is one token for each use and each contract."""
+    """The tokens of a source, in order; joined they are the source. Ghost text is one token for each line and each contract."""
     tokens, at, line = [], 0, 1
     while at < len(text):
         found = TOKEN.match(text, at)
@@ -44,7 +44,7 @@ def scan(text, where):
             raise Refused(f"{where}:{line}: no known token begins with {text[at:at + 10]!r}")
         kind, end = found.lastgroup, found.end()
         if kind == "word" and found.group() == "ghost":
-            kind, end = "ghost_use", end_of_ghost_use(text, at, where, line)
+            kind, end = "ghost_line", end_of_ghost_line(text, at, where, line)
         elif kind == "word" and found.group() in CONTRACT_WORDS:
             kind, end = "contract", end_of_contract(text, end, where, line)
         tokens.append(Token(kind, text[at:end], line))
@@ -53,11 +53,11 @@ def scan(text, where):
     return tokens
 
 
-def end_of_ghost_use(text, at, where, line):
-    """Behind the line's end: `ghost use` is the one ghost line that is known, and it stands alone on its line."""
-    found = re.compile(r"ghost use [^;{}\n]*(\{[^;{}\n]*\})?;\n").match(text, at)
-    if not found or (at > 0 and text[at - 1] != "\n"):
-        raise Refused(f"{where}:{line}: a ghost line that is not 'ghost use ...;'")
+def end_of_ghost_line(text, at, where, line):
+    """Behind the line's end. Known are `ghost use`, a ghost field of a struct and a ghost item of an impl, each alone on its line."""
+    found = re.compile(r"ghost (use [^;{}\n]*(\{[^;{}\n]*\})?;|[a-z_]+: \{[^{}\n]*\},|[a-z_]+ = \{[^{}\n]*\};)\n").match(text, at)
+    if not found or text[text.rfind("\n", 0, at) + 1:at].strip(" "):
+        raise Refused(f"{where}:{line}: a ghost line that is not known")
     return found.end()
 
 

@@ -22,6 +22,15 @@ def rewritten(text, crate="sha256"):
 
 
 class TakenOut(unittest.TestCase):
+    def test_ghost_fields_and_items(self):
+        source = "#[derive(Drop)]\nstruct A {\n    a: u8,\n    ghost b: { B a },\n}\n"
+        self.assertEqual(rewritten(source), "struct A {\n    a: u8,\n    }\n", "a ghost field and a derive of Rattle's own go")
+        source = "impl Iterator for A {\n    type Item = u8;\n\n    ghost next_gives = { a (λ t. b t) };\n\n}\n"
+        self.assertEqual(rewritten(source), "impl Iterator for A {\n    type Item = u8;\n\n    \n}\n", "a ghost item goes")
+
+    def test_drop_bounds(self):
+        self.assertEqual(rewritten("fn f<T: Drop>(a: T) {\n}\n"), "fn f<T>(a: T) {\n}\n", "what every type of Rust is goes")
+
     def test_ghost_uses_and_contracts(self):
         source = f"#![tactic(auto)]\nghost use a.b.c.{{◌≡◌, d}};\nuse a::b;\n\nfn f(a: u8) -> u8\n{CONTRACT}{{\n    a\n}}\n"
         self.assertEqual(rewritten(source), "use a::b;\n\nfn f(a: u8) -> u8\n{\n    a\n}\n", "contracts and ghost uses go")
@@ -42,9 +51,12 @@ class Changed(unittest.TestCase):
         for source in ("#[repr(C)]\n#[derive(Clone, Copy)]\npub struct A {\n}\n", "#[derive(Clone, Copy)]\nenum A {\n}\n"):
             self.assertEqual(rewritten(source), source, "plain data")
 
-    def test_wrapping_functions(self):
-        source = "fn f() -> u64 {\n    std::num::wrapping_add_u64(1, 2)\n}\n"
-        self.assertEqual(rewritten(source), "fn f() -> u64 {\n    u64::wrapping_add(1, 2)\n}\n", "core's function")
+    def test_forms_that_stay(self):
+        source = (
+            "fn f<'a>(s: &'a [u8]) -> Option<&'a [u8]> {\n    let &[a, ref b @ ..] = s else { return None };\n"
+            "    g(a)?;\n    for k in 0..2 {\n    }\n    Some(b)\n}\n"
+        )
+        self.assertEqual(rewritten(source), source, "patterns, `?` and loops")
 
     def test_wide_numbers(self):
         source = "fn f(n: usize) -> u32 {\n    (n % 4294967296) as u32\n}\n"
@@ -67,7 +79,7 @@ class WholeLibrary(unittest.TestCase):
                 no_std.main([folder])
             exported = (Path(folder) / no_std.LIBRARY / "src" / "calls.rs").read_text()
         crates = no_std.needed_crates()
-        self.assertIn("17 crates with 23 exported functions, which are the header's", said.getvalue(), "what is written")
+        self.assertIn("18 crates with 23 exported functions, which are the header's", said.getvalue(), "what is written")
         for call in ("update", "write", "read", "give_up"):
             self.assertIn(f"user_{call}", crates, "the crate of a call")
             self.assertIn(f"fn kozbrax_{call}_start(\n        servers: u32,", exported, "what C calls to start it")

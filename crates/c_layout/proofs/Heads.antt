@@ -7,9 +7,10 @@ use native.Mathlib.Nat.{add-zero, pow-suc, mul-le-mul_right}
 use native.Mathlib.Omega.{arith}
 use lib.Arith.{digits_div, digits_mod}
 use lib.Dec.{eqb, leb}
+use mir.Val.{bool_byte}
 use lib.ListN.{length, take, drop, get_or, replicate, length-append, length-drop, length-replicate, take-append-drop}
 use lib.Seq.{take_all, take_at, drop_at, drop-cons, drop-drop, get_or-drop}
-use borrow.Author.Tests.{eq-eqb, ne_eqb, leb-true}
+use borrow.Author.Tests.{leb-true}
 use Rattle.sha256.specs.Bytes.{be, number_at, written}
 use Rattle.sha256.proofs.Laws.{be-length, be-mod, written-whole, filled_twice}
 use Rattle.sha256.proofs.Numbers.{be-two, be_four, number-two, number_four}
@@ -19,43 +20,41 @@ use Rattle.tree.specs.Cover.{piece}
 use Rattle.tree.proofs.Cases.{by_eqb, and-true}
 use Rattle.tree.proofs.Messages.{be-one, number-elements, three_parts}
 use Rattle.tree.specs.Setup.{Settings, settings, in_log, first_code}
-use Rattle.user_list.specs.Users.{user_count, group_fits, least_answer}
+use Rattle.user_list.specs.Users.{group_fits, least_answer}
 use Rattle.tree.specs.Inner.{settings_of}
 use Rattle.server.specs.declared.Head.{Head}
 use Rattle.server.specs.declared.Earlier.{Earlier}
-use Rattle.server.specs.declared.Out.{Out}
+use Rattle.server.specs.declared.lent.Reply.{Reply}
 use Rattle.server.specs.Checks.{server_setup_checks, server_settings_fit, place_fits, head_fits}
 use Rattle.server.specs.Serve.{ServeOutcome, refused_setup, served}
 use Rattle.user_list.proofs.Lists.{group-fits}
 use Rattle.server.proofs.Served.{served-refused}
 use Rattle.server.proofs.Sizes.{answer-at-most_2552}
 use Rattle.tree.specs.declared.setup.Config.{Config}
-use Rattle.server.specs.Inner.{ServeYields}
+use Rattle.server.specs.Inner.{reply_of, ServesLent}
 use Rattle.c_layout.specs.Inner.{config_of}
 use Rattle.c_layout.specs.Mark.{mark_of}
 use Rattle.c_layout.specs.Server.{place_bytes, head_bytes, earlier_of, head_of, result_of, server_answered, ServerYields}
-use Rattle.c_layout.specs.declared.serving.Served.{Served}
 use Rattle.c_layout.proofs.Narrowed.{narrowed}
-use Rattle.c_layout.proofs.States.{part_read}
+use Rattle.c_layout.proofs.States.{part_read, mark_cast}
 use Rattle.c_layout.proofs.Inverses.{four, mark-fits, mark-read}
 
 -- the head that is read, and the bytes that are laid
-pub earlier_read : (b t d : List ℕ) (p a : ℕ) (k : Bool) → length b ≡ 79 → p ≡ number_at 4 b 40 → a ≡ number_at 2 b 45 → t ≡ drop 47 b → d ≡ piece t 0
-    → k ≡ eqb (get_or b 39 0) 1
-    → ◌≡◌ {A = Earlier} (record { known = k; position = p; level = get_or b 44 0; author = a; digest = d }) (earlier_of b)
+pub earlier_read : (b t d : List ℕ) (p a : ℕ) → length b ≡ 79 → p ≡ number_at 4 b 40 → a ≡ number_at 2 b 45 → t ≡ drop 47 b → d ≡ piece t 0
+    → ◌≡◌ {A = Earlier} (record { known = eqb (get_or b 39 0) 1; position = p; level = get_or b 44 0; author = a; digest = d }) (earlier_of b)
 unfolding earlier_of
-earlier_read b t d p a k l ep ea et ed ek =
+earlier_read b t d p a l ep ea et ed =
     let ld = length-drop 47 b in
     let e : d ≡ drop 47 b = part_read b t d 47 (omega arith) et ed ∙ take_all 32 (drop 47 b) (omega arith) in
-    rw (ek, ep, ea, e)
+    rw (ep, ea, e)
 
-pub head_read : (b t d : List ℕ) (n p a : ℕ) (f : Bool) (earlier : Earlier) → length b ≡ 79 → f ≡ leb (get_or b 39 0) 1 → n ≡ number_at 4 b 0
-    → p ≡ cond f n 4294967295 → a ≡ number_at 2 b 5 → t ≡ drop 7 b → d ≡ piece t 0 → earlier ≡ earlier_of b
+pub head_read : (b t d : List ℕ) (p a : ℕ) (earlier : Earlier) → length b ≡ 79 → p ≡ cond (leb (get_or b 39 0) 1) (number_at 4 b 0) 4294967295
+    → a ≡ number_at 2 b 5 → t ≡ drop 7 b → d ≡ piece t 0 → earlier ≡ earlier_of b
     → ◌≡◌ {A = Head} (record { position = p; level = get_or b 4 0; author = a; digest = d; earlier = earlier }) (head_of b)
 unfolding head_of
-head_read b t d n p a f earlier l ef en ep ea et ed ee =
+head_read b t d p a earlier l ep ea et ed ee =
     let e : d ≡ take 32 (drop 7 b) = part_read b t d 7 (omega arith) et ed in
-    rw (ep, ef, en, ea, e, ee)
+    rw (ep, ea, e, ee)
 
 place_size : (p l a : ℕ) (d : List ℕ) → length d ≡ 32 → length (place_bytes p l a d) ≡ 39
 unfolding place_bytes
@@ -72,15 +71,16 @@ place-laid position level author d p a out ld hl ep ea eo =
     eo ∙ ap (written (replicate 39 0) 0) parts
     ∙ written-whole (replicate 39 0) (be 4 position ++ (be 1 level ++ (be 2 author ++ d))) (omega (arith, length-replicate {A = ℕ} 39 0))
 
-pub head-laid : (h : Head) (mark : ℕ) (first rest s₁ s₂ : List ℕ) → length first ≡ 39 → length rest ≡ 39 → mark ≡ mark_of h.earlier.known
+pub head-laid : (h : Head) (first rest s₁ s₂ : List ℕ) → length first ≡ 39 → length rest ≡ 39
     → first ≡ place_bytes h.position h.level h.author h.digest
     → rest ≡ place_bytes h.earlier.position h.earlier.level h.earlier.author h.earlier.digest
-    → s₁ ≡ written (replicate 79 0) 0 (first ++ (mark ∷ [])) → s₂ ≡ written s₁ 40 rest → s₂ ≡ head_bytes h
+    → s₁ ≡ written (replicate 79 0) 0 (first ++ (bool_byte h.earlier.known ∷ [])) → s₂ ≡ written s₁ 40 rest → s₂ ≡ head_bytes h
 unfolding head_bytes
-head-laid h mark first rest s₁ s₂ lf lr em ef er e₁ e₂ =
+head-laid h first rest s₁ s₂ lf lr ef er e₁ e₂ =
+    let mark : ℕ = bool_byte h.earlier.known in
     let whole : s₂ ≡ (first ++ (mark ∷ [])) ++ rest =
     filled_twice (replicate 79 0) (first ++ (mark ∷ [])) rest s₁ s₂ 40 (simp length-append (omega arith)) (omega (arith, length-replicate {A = ℕ} 79 0)) e₁ e₂ in
-    whole ∙ append_assoc first (mark ∷ []) rest ∙ rw (em, ef, er)
+    whole ∙ append_assoc first (mark ∷ []) rest ∙ rw (mark_cast h.earlier.known, ef, er)
 
 -- The bytes of a position, level, author and digest, written out.
 place-elements : (p l a : ℕ) (d : List ℕ) → l < 256
@@ -221,34 +221,27 @@ module _ (log users : List ℕ) (h : Head) (store : List ℕ) (used : ℕ) (q an
       65535 servers own (omega arith)
 
 -- what the call below gave
-pub record Called (servers own : ℕ) (log users head store : List ℕ) (used : ℕ) (q answer : List ℕ) (out : Out) (s a : List ℕ) : Type 0 where
-  pub result : out ≡ (served (settings servers own log users) (head_of head) store used q answer).out
-  pub stored : s ≡ (served (settings servers own log users) (head_of head) store used q answer).store
-  pub answered : a ≡ (served (settings servers own log users) (head_of head) store used q answer).answer
+pub record Called (servers own : ℕ) (log users head store : List ℕ) (used : ℕ) (q answer : List ℕ) (reply : Reply) (after : Head) (s a : List ℕ) : Type 0 where
+  pub left : ServesLent (served (settings servers own log users) (head_of head) store used q answer) reply after s a
 
-module _ {servers own : ℕ} {log users head store : List ℕ} {used : ℕ} {q answer : List ℕ} {out : Out} {s a : List ℕ} where
+module _ {servers own : ℕ} {log users head store : List ℕ} {used : ℕ} {q answer : List ℕ} {reply : Reply} {after : Head} {s a : List ℕ} where
   pub called : {config : Config} {before : Head} → config ≡ config_of servers own log → before ≡ head_of head
-      → ServeYields (served (settings_of config users) before store used q answer) out s a
-      → Called servers own log users head store used q answer out s a
+      → ServesLent (served (settings_of config users) before store used q answer) reply after s a
+      → Called servers own log users head store used q answer reply after s a
   unfolding config_of
-  called en eb e =
-      let f = rw (en, eb, passed_on log users (head_of head) store used q answer servers own) at e in
-      record { result = f.0; stored = f.1.0; answered = f.1.1 }
+  called en eb e = record { left = rw (en, eb, passed_on log users (head_of head) store used q answer servers own) at e }
 
-  module _ (e : Called servers own log users head store used q answer out s a) where
-    pub answer-small : out.answered ≤ least_answer
-    answer-small = rw e.result (answer-at-most_2552 (settings servers own log users) (head_of head) store used q answer)
+  module _ (e : Called servers own log users head store used q answer reply after s a) where
+    pub answer-small : reply.answered ≤ least_answer
+    unfolding reply_of
+    answer-small = rw e.left.0 (answer-at-most_2552 (settings servers own log users) (head_of head) store used q answer)
 
     -- so the call over bytes leaves what its definition says
-    pub left-refused : {r : Served} → (out.code ≡ 0 → ⊥) → r ≡ result_of out
-        → ServerYields (server_answered servers own log users head store used q answer) r head s a
-    unfolding server_answered
-    left-refused n er = rw (← e.result, ne_eqb out.code 0 n) (er, (refl, (e.stored, e.answered)))
-
-    pub left-taken : {r : Served} {after : List ℕ} → out.code ≡ 0 → after ≡ head_bytes out.head → r ≡ result_of out
-        → ServerYields (server_answered servers own log users head store used q answer) r after s a
-    unfolding server_answered
-    left-taken z ea er = rw (← e.result, eq-eqb out.code 0 z) (er, (ea, (e.stored, e.answered)))
+    pub head-left : (head' : List ℕ) → head' ≡ cond (eqb reply.code 0) (head_bytes after) head
+        → ServerYields (server_answered servers own log users head store used q answer)
+        (record { code = reply.code; answer = reply.answered; used = reply.used }) head' s a
+    unfolding server_answered result_of reply_of
+    head-left head' eh = rw (eh, e.left.0, e.left.1.0) (refl, (refl, (e.left.1.1.0, e.left.1.1.1)))
 
 -- a head whose mark is above 1
 pub head-mark-refused : (servers own : ℕ) (log users head store : List ℕ) (used : ℕ) (q answer : List ℕ) → leb (get_or head 39 0) 1 ≡ false

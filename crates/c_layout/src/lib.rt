@@ -2,9 +2,9 @@
 // keep them.
 #![tactic(auto)]
 
-mod marks;
 mod numbers;
 pub mod serving;
 pub mod user_answer;
+mod user_call;
 pub mod user_start;
 mod user_state;

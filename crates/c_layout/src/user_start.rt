@@ -1,11 +1,12 @@
-// The user's calls. What is kept is 46 lent bytes, the call that goes on 82.
+// The user's calls. What is kept is 46 lent bytes, the call that goes on 82. Their parameters are those of the C interface, one by one.
 ghost use Rattle.std.specs.Prelude.{◌≡◌};
 ghost use Rattle.tree.specs.Setup.{settings};
 ghost use Rattle.user.specs.Outcome.{nothing};
 ghost use Rattle.c_layout.specs.User.{asked_of, update_begun, read_begun, write_begun, give_up_begun, Begins, WriteBegins};
 ghost use Rattle.c_layout.specs.User.{GiveUpBegins, settled_answer};
 
-use super::{marks, numbers, user_state};
+use super::user_call::Call;
+use super::{numbers, user_state};
 use user::call::{Found, StepResult};
 use user::settled;
 use user_give_up::call::GiveUp;
@@ -35,30 +36,32 @@ pub struct SettledAnswer {
     pub settled: u32,
 }
 
-// What a step's result is to the caller.
-pub(crate) fn result(s: StepResult, f: Found) -> Asked
-    ensures { result ≡ asked_of s f }
-{
-    Asked {
-        code: s.code as u32,
-        refusal: s.refusal as u32,
-        server: s.server as u32,
-        length: s.length as u32,
-        ended: marks::mark(s.ended) as u32,
-        author: f.author as u32,
-        entry: f.length as u32,
+impl Asked {
+    // What a step's result, and what a Read has found with it, is to the caller.
+    pub(crate) fn of(s: StepResult, f: Found) -> Asked
+        ensures { result ≡ asked_of s f }
+    {
+        Asked {
+            code: s.code as u32,
+            refusal: s.refusal as u32,
+            server: s.server as u32,
+            length: s.length as u32,
+            ended: s.ended as u32,
+            author: f.author as u32,
+            entry: f.length as u32,
+        }
     }
-}
 
-// What a step's result is to the caller, where nothing is read.
-pub(crate) fn plain_result(s: StepResult) -> Asked
-    ensures { result ≡ asked_of s nothing }
-{
-    let none = Found {
-        author: 0,
-        length: 0,
-    };
-    result(s, none)
+    // The same where nothing is read.
+    pub(crate) fn without_entry(s: StepResult) -> Asked
+        ensures { result ≡ asked_of s nothing }
+    {
+        let nothing = Found {
+            author: 0,
+            length: 0,
+        };
+        Asked::of(s, nothing)
+    }
 }
 
 // Starts an Update.
@@ -78,12 +81,12 @@ pub fn update_start(
     let left = Update::start(
         numbers::config(servers, own, log),
         users,
-        user_state::kept_of(*kept),
+        user_state::kept_of(kept),
         request,
     );
     let step = left.step;
-    user_state::lay_update(step.code, left.call, call);
-    plain_result(step)
+    Call::Updating(left.call).lay(step.code, call);
+    Asked::without_entry(step)
 }
 
 // Starts a Write of this entry, or resumes the open write of it.
@@ -109,7 +112,7 @@ pub fn write_start(
     let left = Write::start(
         numbers::config(servers, own, log),
         users,
-        user_state::kept_of(*kept),
+        user_state::kept_of(kept),
         tree,
         entry,
         *randomizer,
@@ -118,8 +121,8 @@ pub fn write_start(
         request,
     );
     let step = left.step;
-    user_state::lay_write(step.code, left.call, call);
-    plain_result(step)
+    Call::Writing(left.call).lay(step.code, call);
+    Asked::without_entry(step)
 }
 
 // Starts a Read of the entry at a position; of the entry buffer the length is looked at.
@@ -141,14 +144,14 @@ pub fn read_start(
     let left = Read::start(
         numbers::config(servers, own, log),
         users,
-        user_state::kept_of(*kept),
+        user_state::kept_of(kept),
         position,
         request,
         entry,
     );
     let step = left.step;
-    user_state::lay_read(step.code, left.call, call);
-    result(step, left.found)
+    Call::Reading(left.call).lay(step.code, call);
+    Asked::of(step, left.found)
 }
 
 // Starts a give-up of the open write, or repeats one that has begun. What is kept says from then on that it has.
@@ -169,14 +172,14 @@ pub fn give_up_start(
     let left = GiveUp::start(
         numbers::config(servers, own, log),
         users,
-        user_state::kept_of(*kept),
+        user_state::kept_of(kept),
         path,
         request,
     );
     let step = left.step;
     user_state::lay_kept(step.code, left.kept, kept);
-    user_state::lay_give_up(step.code, left.call, call);
-    plain_result(step)
+    Call::GivingUp(left.call).lay(step.code, call);
+    Asked::without_entry(step)
 }
 
 // Whether the own operation at a position is settled.
@@ -193,11 +196,11 @@ pub fn settled(
     let given = settled::settled(
         numbers::config(servers, own, log),
         users,
-        user_state::kept_of(*kept),
+        user_state::kept_of(kept),
         position,
     );
     SettledAnswer {
         code: given.code as u32,
-        settled: marks::mark(given.settled) as u32,
+        settled: given.settled as u32,
     }
 }

@@ -11,7 +11,6 @@ use lib.ListN.{length, drop, get_or}
 use lib.Signed.{lt_z}
 use mir.Syntax.{w16}
 use mir.Val.{to_z}
-use mir.Facts.{to_z-neg}
 use borrow.Author.Tests.{ltb-true, ltb-false, lt-ltb, le-ltb, eq-eqb, ne_eqb, eqb-true}
 use Rattle.sha256.proofs.Cases.{by_bool, cases_lt}
 use Rattle.firing.specs.declared.segment.Segment.{Segment}
@@ -21,7 +20,7 @@ use Rattle.firing.specs.Schedule.{twos_complement, segments_in, segment_count, s
 use Rattle.firing.specs.Schedule.{segment_fits, segments_fit, rounded_up, segment_minutes, total, peak, start, schedule_fits, report_code}
 use Rattle.firing.specs.Schedule.{unreported, reported}
 use Rattle.firing.specs.Temperatures.{reached}
-use Rattle.firing.proofs.Signed.{pos_minus, low_half, lowered}
+use Rattle.firing.proofs.Signed.{pos_minus, signed-bits}
 use Rattle.firing.proofs.Segments.{keeps_rules, rounded_enough, rounded_least, segment_most}
 use Rattle.firing.proofs.Schedules.{layout, code-none}
 
@@ -32,13 +31,7 @@ schedule_inserts entry e = rw (eqb-true (get_or entry 0 0) 3 e)
 
 -- Two bytes as a rate: what a signed number of 16 bits with these bits is.
 pub rate_bits_lem : (n : ℕ) → n < 65536 → to_z w16 n ≡ twos_complement n
-unfolding twos_complement
-rate_bits_lem n f =
-    cases_lt n 32768 (low_half n)
-    (λ high.
-    let back : 65536 - suc (65535 - n) ≡ n = omega arith in
-    subst (λ (k : ℕ). to_z w16 k ≡ negsuc (65535 - n)) back (to_z-neg w16 (65535 - n) (omega arith))
-    ∙ sym (rw (le-ltb n 32768 high) (lowered n high f)))
+rate_bits_lem = signed-bits
 
 -- The three signs of a number.
 by_sign {ℓ} : (P : Bool → Bool → Bool → Type ℓ) → P true false false → P false true false → P false false true

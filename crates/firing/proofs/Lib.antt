@@ -1,6 +1,5 @@
 -- signed numbers, and laws of entries, segments, firings and their starts
 pub mod Signed
-pub mod Entries
 pub mod Segments
 pub mod Schedules
 pub mod Firings

@@ -8,7 +8,7 @@ use native.Mathlib.Omega.{arith}
 use lib.Dec.{eqb, leb}
 use lib.ListN.{length, drop, get_or}
 use lib.Seq.{drop-drop}
-use borrow.Author.Tests.{lt-leb, le-leb, leb-true, eqb-true, ne_eqb}
+use borrow.Author.Tests.{le-leb, leb-true, eqb-true, ne_eqb}
 use Rattle.sha256.proofs.Cases.{by_bool}
 use Rattle.firing.specs.declared.segment.Segment.{Segment}
 use Rattle.firing.specs.declared.schedule.Firing.{Firing}
@@ -27,25 +27,6 @@ highest a b c =
     (le_trans (le-max_right b c) (le-max_right a (max b c))))
 
 module _ (entry : List ℕ) where
-  module _ (first : ℕ) (ef : first ≡ get_or entry 0 0) where
-    pub other_first : (first ≡ 3 → ⊥) → false ≡ laid_out entry
-    unfolding laid_out is_schedule
-    other_first n = rw (← ef, ne_eqb first 3 n)
-
-    module _ (is : first ≡ 3) (count : ℕ) (ec : count ≡ get_or entry 1 0) where
-      pub no_segment : count < 1 → false ≡ laid_out entry
-      unfolding laid_out is_schedule segment_count
-      no_segment h = rw (← ef, is, ← ec, lt-leb 1 count h)
-
-      module _ (some : 1 ≤ count) where
-        pub many_segments : 16 < count → false ≡ laid_out entry
-        unfolding laid_out is_schedule segment_count
-        many_segments h = rw (← ef, is, ← ec, le-leb 1 count some, lt-leb count 16 h)
-
-        pub length_decides : count ≤ 16 → eqb (length entry) (2 + 6 * count) ≡ laid_out entry
-        unfolding laid_out is_schedule segment_count
-        length_decides h = rw (← ef, is, ← ec, le-leb 1 count some, le-leb count 16 h)
-
   -- what the layout says
   pub record Layout : Type 0 where
     pub is : get_or entry 0 0 ≡ 3

@@ -1,13 +1,15 @@
 -- One segment: its rules by the way through their tests, and how long it lasts.
-use mathlib.Core.Path.{◌≡◌, ◌∙◌}
-use mathlib.Core.Bool.{Bool, true, false, cond, and-eq-true_iff}
-use Prim.Native.Nat.{ℕ, zero, suc, ◌+◌, ◌-◌, ◌*◌, ◌/◌, ◌≤◌, ◌<◌}
-use native.Mathlib.Nat.{le_trans, mul-suc, suc-mul, div-mul-le_self, lt-div-mul-add, le-div_iff_mul-le, div-lt_iff_lt-mul}
+use mathlib.Core.Path.{◌≡◌, sym, ◌∙◌}
+use mathlib.Core.Bool.{true, cond, and-eq-true_iff}
+use Prim.Native.Nat.{ℕ, zero, suc, ◌+◌, ◌-◌, ◌*◌, ◌/◌, ◌%◌, ◌≤◌, ◌<◌, min}
+use native.Mathlib.Nat.{le_trans, add-zero, min-eq_left, mod-lt, add-mul, one-mul, div-add-mod', mul-suc, suc-mul, div-mul-le_self, lt-div-mul-add, le-div_iff_mul-le, div-lt_iff_lt-mul}
 use native.Mathlib.Omega.{arith}
+use Rattle.std.proofs.lemmas.Nat.{div-mul-add}
+use Rattle.std.specs.Int.{div_ceil}
 use lib.Dec.{eqb, leb, ltb}
 use lib.IntN.{pos, negsuc, nat_abs, ◌-ℤ◌}
-use borrow.Author.Tests.{lt-leb, le-leb, leb-true, eqb-false, eq-eqb, ne_eqb, ltb-true, ltb-false}
-use Rattle.sha256.proofs.Cases.{by_bool}
+use borrow.Author.Tests.{leb-true, eqb-false, eq-eqb, ne_eqb, ltb-true, ltb-false}
+use Rattle.sha256.proofs.Cases.{by_bool, cases_lt}
 use Rattle.firing.specs.declared.segment.Segment.{Segment}
 use Rattle.firing.specs.Schedule.{change, sign_fits, segment_fits, rounded_up, segment_minutes}
 use Rattle.firing.proofs.Signed.{pos_minus}
@@ -20,6 +22,22 @@ rounded_enough a b h = omega (arith, lt-div-mul-add {a = a + (b - 1)} h)
 pub rounded_least : (a b : ℕ) → 0 < b → rounded_up a b * b < a + b
 unfolding rounded_up
 rounded_least a b h = omega (arith, div-mul-le_self (a + (b - 1)) b)
+
+-- the library's rounding up is the same
+pub ceil-is : (a b : ℕ) → 0 < b → div_ceil a b ≡ rounded_up a b
+unfolding rounded_up
+ceil-is a b h =
+    let whole = div-add-mod' a b in
+    let low = mod-lt a {m = b} h in
+    cases_lt 0 (a % b)
+    (λ r.
+    let one : min 1 (a % b) ≡ 1 = min-eq_left (let t : 1 ≤ a % b = omega arith in t) in
+    let up : a + (b - 1) ≡ (a / b + 1) * b + (a % b - 1) = omega (arith, whole, add-mul (a / b) 1 b, one-mul b) in
+    rw (one, up) (sym (div-mul-add (a / b + 1) b (a % b - 1) (omega arith))))
+    (λ r.
+    let none : a % b ≡ 0 = omega arith in
+    let up : a + (b - 1) ≡ a / b * b + (b - 1) = omega (arith, whole) in
+    rw (none, up) (add-zero (a / b) ∙ sym (div-mul-add (a / b) b (b - 1) (omega arith))))
 
 pub rounded_most : (a b : ℕ) → 0 < b → rounded_up a b ≤ a
 unfolding rounded_up
@@ -45,41 +63,13 @@ pub change-most : (least most a b : ℕ) → least ≤ a → a ≤ most → leas
 change-most least most a b la ma lb mb = rw (distance a b) (omega arith)
 
 module _ (before : ℕ) (s : Segment) where
-  pub rate-out : 600 < nat_abs s.rate → false ≡ segment_fits before s
-  unfolding segment_fits
-  rate-out h = rw (lt-leb (nat_abs s.rate) 600 h)
-
-  module _ (slow : nat_abs s.rate ≤ 600) where
-    pub target_low : s.target < 20 → false ≡ segment_fits before s
-    unfolding segment_fits
-    target_low h = rw (le-leb (nat_abs s.rate) 600 slow, lt-leb 20 s.target h)
-
-    module _ (warm : 20 ≤ s.target) where
-      pub target_high : 1350 < s.target → false ≡ segment_fits before s
-      unfolding segment_fits
-      target_high h =
-          rw (le-leb (nat_abs s.rate) 600 slow, le-leb 20 s.target warm, lt-leb s.target 1350 h)
-
-      module _ (low : s.target ≤ 1350) where
-        pub hold_long : 5999 < s.hold → false ≡ segment_fits before s
-        unfolding segment_fits
-        hold_long h =
-            rw (le-leb (nat_abs s.rate) 600 slow, le-leb 20 s.target warm, le-leb s.target 1350 low, lt-leb s.hold 5999 h)
-
-        pub sign_decides : (t : Bool) → s.hold ≤ 5999 → t ≡ sign_fits before s → t ≡ segment_fits before s
-        unfolding segment_fits
-        sign_decides t h e =
-            e
-            ∙ rw (le-leb (nat_abs s.rate) 600 slow, le-leb 20 s.target warm, le-leb s.target 1350 low, le-leb s.hold 5999 h)
-
   pub holds_alone : nat_abs s.rate ≡ 0 → s.hold ≡ segment_minutes before s
   unfolding segment_minutes
   holds_alone e = rw (eq-eqb (nat_abs s.rate) 0 e)
 
-  pub moves : (nat_abs s.rate ≡ 0 → ⊥)
-      → (60 * nat_abs (change before s) + (nat_abs s.rate - 1)) / nat_abs s.rate + s.hold ≡ segment_minutes before s
-  unfolding segment_minutes rounded_up
-  moves n = rw (ne_eqb (nat_abs s.rate) 0 n)
+  pub moves : (nat_abs s.rate ≡ 0 → ⊥) → div_ceil (60 * nat_abs (change before s)) (nat_abs s.rate) + s.hold ≡ segment_minutes before s
+  unfolding segment_minutes
+  moves n = rw (ne_eqb (nat_abs s.rate) 0 n, ceil-is (60 * nat_abs (change before s)) (nat_abs s.rate) (omega (arith, n)))
 
 -- a segment that keeps the rules, but for the range of its rate
 pub record KeepsRules (before : ℕ) (s : Segment) : Type 0 where

@@ -1,16 +1,17 @@
--- Signed numbers and the bits that the machine holds for them: widening, differences of two counts, sizes and signs.
+-- Signed numbers and the bits that the machine holds for them: widening, differences of two counts, and signs.
 use mathlib.Core.Path.{◌≡◌, refl, sym, ap, subst, ◌∙◌}
-use mathlib.Core.Bool.{true, false, cond, or-false, false≢true}
-use Prim.Native.Nat.{ℕ, zero, suc, ◌-◌, ◌≤◌, ◌<◌}
+use mathlib.Core.Bool.{cond}
+use Prim.Native.Nat.{ℕ, zero, suc, ◌-◌, ◌≤◌, ◌<◌, min}
+use native.Mathlib.Nat.{min-eq_right}
 use native.Mathlib.Omega.{arith}
 use lib.Dec.{T, eqb, leb, ltb}
-use lib.IntN.{ℤ, pos, negsuc, neg_ℤ, nat_abs, sub_ℕ, ◌-ℤ◌, +ℤ_idl}
-use lib.Signed.{lt_z, non_neg}
-use mir.Syntax.{Width, w16, w32, w64}
-use mir.Val.{Fits, SFits, hbits, to_z, of_z}
-use mir.Facts.{sfits_widen, to_z-of_z, to_z_pos}
-use borrow.Author.Tests.{ltb-true, ltb-false, lt-ltb, le-ltb, ne_eqb, eq-eqb}
-use Rattle.sha256.proofs.Cases.{by_bool}
+use lib.IntN.{ℤ, pos, negsuc, sub_ℕ, ◌-ℤ◌}
+use Rattle.std.specs.Int.{int_signum}
+use mir.Syntax.{Width, w16, w32}
+use mir.Val.{SFits, hbits, to_z, of_z}
+use mir.Facts.{sfits_widen, to_z-of_z, to_z_pos, to_z-neg}
+use borrow.Author.Tests.{lt-ltb, le-ltb, ne_eqb}
+use Rattle.sha256.proofs.Cases.{by_bool, cases_lt}
 use Rattle.firing.specs.Schedule.{twos_complement, same_sign}
 
 -- A number of one width, cast to a wider one, is the same number.
@@ -43,83 +44,41 @@ module _ (a b : ℕ) (f : a < 65537) (g : b < 65537) where
   difference = to_z-of_z difference_fits ∙ from_bits
 
 -- two's complement of two bytes
-pub low_half : (n : ℕ) → n < 32768 → to_z w16 n ≡ twos_complement n
+pub lowered : (n : ℕ) → 32768 ≤ n → n < 65536 → pos n -ℤ pos 65536 ≡ negsuc (65535 - n)
+lowered n high f = pos_minus n 65536 ∙ rw (lt-ltb n 65536 f) (ap negsuc (omega arith))
+
+pub signed-bits : (n : ℕ) → n < 65536 → to_z w16 n ≡ twos_complement n
 unfolding twos_complement
-low_half n low = to_z_pos w16 {n = n} (omega arith) ∙ rw (lt-ltb n 32768 low)
+signed-bits n f =
+    cases_lt n 32768 (λ low. to_z_pos w16 {n = n} (omega arith) ∙ rw (lt-ltb n 32768 low))
+    (λ high.
+    let back : 65536 - suc (65535 - n) ≡ n = omega arith in
+    subst (λ (k : ℕ). to_z w16 k ≡ negsuc (65535 - n)) back (to_z-neg w16 (65535 - n) (omega arith))
+    ∙ sym (rw (le-ltb n 32768 high) (lowered n high f)))
 
-module _ (n : ℕ) (high : 32768 ≤ n) (f : n < 65536) where
-  pub lowered : pos n -ℤ pos 65536 ≡ negsuc (65535 - n)
-  lowered = pos_minus n 65536 ∙ rw (lt-ltb n 65536 f) (ap negsuc (omega arith))
+-- the signs of two numbers
+sign-one : (n : ℕ) → (n ≡ 0 → ⊥) → min n 1 ≡ 1
+sign-one n z = let h : 1 ≤ n = omega (arith, z) in min-eq_right h
 
-  narrow_fits : SFits w16 (pos n -ℤ pos 65536)
-  narrow_fits = subst (SFits w16) (sym lowered) (record { sfits = omega arith })
-
-  pub high_fits : SFits w16 (to_z w32 (of_z w32 (to_z w32 n -ℤ to_z w32 65536)))
-  high_fits = subst (SFits w16) (sym (difference n 65536 (omega arith) (omega arith))) narrow_fits
-
-  pub high_half : to_z w16 (of_z w16 (to_z w32 (of_z w32 (to_z w32 n -ℤ to_z w32 65536)))) ≡ twos_complement n
-  unfolding twos_complement
-  high_half = to_z-of_z high_fits ∙ difference n 65536 (omega arith) (omega arith) ∙ rw (le-ltb n 32768 high)
-
--- the size of a number below 0, negated at 64 bits
-module _ (x : ℤ) (f : SFits w32 x) (low : lt_z (to_z w32 (of_z w32 x)) (pos 0) ≡ true) where
-  abbrev wide : ℤ
-  wide = to_z w64 (of_z w64 (to_z w32 (of_z w32 x)))
-
-  negated : to_z w64 0 -ℤ wide ≡ neg_ℤ x
-  negated = rw (widened w32 w64 x tt f) (+ℤ_idl (neg_ℤ x))
-
-  neg_fits : (y : ℤ) → SFits w32 y → SFits w64 (neg_ℤ y)
-  neg_fits (pos zero) g = record { sfits = omega arith }
-  neg_fits (pos (suc n)) g = record { sfits = let h = g.sfits in omega arith }
-  neg_fits (negsuc n) g = record { sfits = let h = g.sfits in omega arith }
-
-  pub negation_fits : SFits w64 (to_z w64 0 -ℤ wide)
-  negation_fits = subst (SFits w64) (sym negated) (neg_fits x f)
-
-  back : to_z w64 (of_z w64 (to_z w64 0 -ℤ wide)) ≡ neg_ℤ x
-  back = to_z-of_z negation_fits ∙ negated
-
-  size_of : (y : ℤ) → SFits w32 y → lt_z y (pos 0) ≡ true → (T (non_neg (neg_ℤ y)) × Fits w32 (nat_abs (neg_ℤ y))) × (nat_abs (neg_ℤ y) ≡ nat_abs y)
-  size_of (pos n) g e = let z = ltb-true n 0 e in absurd (omega arith)
-  size_of (negsuc n) g e = ((tt, record { fits = let h = g.sfits in omega arith }), refl)
-
-  abbrev sized : (T (non_neg (neg_ℤ x)) × Fits w32 (nat_abs (neg_ℤ x))) × (nat_abs (neg_ℤ x) ≡ nat_abs x)
-  sized = size_of x f (rw (← to_z-of_z f) low)
-
-  pub size_fits : T (non_neg (to_z w64 (of_z w64 (to_z w64 0 -ℤ wide)))) × Fits w32 (nat_abs (to_z w64 (of_z w64 (to_z w64 0 -ℤ wide))))
-  size_fits = subst (λ (y : ℤ). T (non_neg y) × Fits w32 (nat_abs y)) (sym back) sized.0
-
-  pub size_is : nat_abs (to_z w64 (of_z w64 (to_z w64 0 -ℤ wide))) ≡ nat_abs x
-  size_is = ap nat_abs back ∙ sized.1
-
--- and of one that is not below 0
-module _ (x : ℤ) (f : SFits w32 x) (high : lt_z (to_z w32 (of_z w32 x)) (pos 0) ≡ false) where
-  plain : (y : ℤ) → SFits w32 y → lt_z y (pos 0) ≡ false → T (non_neg y) × Fits w32 (nat_abs y)
-  plain (pos n) g e = (tt, record { fits = let h = g.sfits in omega arith })
-  plain (negsuc n) g e = absurd (false≢true (sym e))
-
-  pub plain_fits : T (non_neg (to_z w32 (of_z w32 x))) × Fits w32 (nat_abs (to_z w32 (of_z w32 x)))
-  plain_fits = subst (λ (y : ℤ). T (non_neg y) × Fits w32 (nat_abs y)) (sym (to_z-of_z f)) (plain x f (rw (← to_z-of_z f) high))
-
--- the tests of two numbers' signs
-pub sign_below : (a b : ℤ) → lt_z a (pos 0) ≡ true → lt_z b (pos 0) ≡ same_sign a b
+pub signs-told : (a b : ℤ) → eqb (of_z w32 (int_signum a)) (of_z w32 (int_signum b)) ≡ same_sign a b
 unfolding same_sign
-sign_below (pos n) b e = let z = ltb-true n 0 e in absurd (omega arith)
-sign_below (negsuc n) b e = rw (ne_eqb (suc n) 0 (λ q. omega arith)) (sym (or-false (lt_z b (pos 0))))
-
-pub sign_above : (a b : ℤ) → lt_z (pos 0) a ≡ true → lt_z (pos 0) b ≡ same_sign a b
-unfolding same_sign
-sign_above (pos n) b e =
-    let z = ltb-true 0 n e in
-    rw (le-ltb n 0 (omega arith), e, ne_eqb n 0 (λ q. omega arith)) (sym (or-false (lt_z (pos 0) b)))
-sign_above (negsuc n) b e = absurd (false≢true e)
-
-pub sign-none : (a b : ℤ) → SFits w32 b → lt_z a (pos 0) ≡ false → lt_z (pos 0) a ≡ false → eqb (of_z w32 b) 0 ≡ same_sign a b
-unfolding same_sign
-sign-none (pos n) b f e g = let z = ltb-false 0 n g in rw (e, g, eq-eqb n 0 (omega arith)) (zero_bits b f)
-  where
-    zero_bits : (b : ℤ) → SFits w32 b → eqb (of_z w32 b) 0 ≡ eqb (nat_abs b) 0
-    zero_bits (pos n) f = refl
-    zero_bits (negsuc n) f = let h = f.sfits in rw (ne_eqb (suc n) 0 (λ q. omega arith), ne_eqb (of_z w32 (negsuc n)) 0 (λ q. omega arith))
-sign-none (negsuc n) b f e g = absurd (false≢true (sym e))
+signs-told (pos zero) (pos zero) = refl
+signs-told (pos zero) (pos (suc m)) = rw (sign-one (suc m) (λ e. omega arith), ne_eqb (suc m) 0 (λ e. omega arith)) refl
+signs-told (pos (suc n)) (pos zero) =
+    rw (sign-one (suc n) (λ e. omega arith), le-ltb (suc n) 0 (omega arith), lt-ltb 0 (suc n) (omega arith), ne_eqb (suc n) 0 (λ e. omega arith)) refl
+signs-told (pos (suc n)) (pos (suc m)) =
+    rw (
+      sign-one (suc n) (λ e. omega arith),
+      sign-one (suc m) (λ e. omega arith),
+      le-ltb (suc n) 0 (omega arith),
+      lt-ltb 0 (suc n) (omega arith),
+      lt-ltb 0 (suc m) (omega arith),
+    )
+    refl
+signs-told (pos zero) (negsuc m) = rw (ne_eqb (suc m) 0 (λ e. omega arith)) refl
+signs-told (pos (suc n)) (negsuc m) =
+    rw (sign-one (suc n) (λ e. omega arith), le-ltb (suc n) 0 (omega arith), lt-ltb 0 (suc n) (omega arith), ne_eqb (suc n) 0 (λ e. omega arith)) refl
+signs-told (negsuc n) (pos zero) = rw (ne_eqb (suc n) 0 (λ e. omega arith)) refl
+signs-told (negsuc n) (pos (suc m)) =
+    rw (sign-one (suc m) (λ e. omega arith), le-ltb (suc m) 0 (omega arith), ne_eqb (suc n) 0 (λ e. omega arith)) refl
+signs-told (negsuc n) (negsuc m) = refl

@@ -149,6 +149,10 @@ module _ (s : Segment) (a b : ℕ) where
           (λ eb. sym (sign_decides ∙ all_starts a b order keeps_sign (λ t l m. sign_between s a b t l m ea eb)))
           (start_breaks b order (omega arith))
 
+      pub both_decide : sign_fits a s && sign_fits b s ≡ starts_fit s a b
+      both_decide =
+          by_bool (λ v. v && sign_fits b s ≡ starts_fit s a b) (sign_fits a s) upper-end_decides (start_breaks a (omega arith) order)
+
 -- A range of starts fits exactly if its ends are in order and in their range and the sign rule holds from every start in it.
 pub starts_fit_lem : (s : Segment) (a b : ℕ) → starts_fit s a b ≡ true → RangeKeepsRules s a b
 unfolding starts_fit

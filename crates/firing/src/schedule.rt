@@ -1,11 +1,12 @@
 // A firing (document 02, d): its segments in order, from a kiln at 20 °C, with its total time and its peak.
-ghost use Rattle.std.specs.Prelude.{◌≡◌, ◌+◌, ◌*◌, max};
+ghost use Rattle.std.specs.Prelude.{◌≡◌};
 ghost use Rattle.firing.specs.Schedule.{laid_out, rules_kept, reported, unreported};
 
 use super::{entry, segment};
 use sha256::bytes;
 
-// What is reported of an entry: the code, and where it is 0 the total of minutes and the highest target.
+// What is reported of an entry: the code, and where it is 0 the total of minutes and the highest target. The code is a number beside
+// these, and no `Result`: C reads it.
 #[repr(C)]
 #[derive(Clone, Copy)]
 pub struct Firing {
@@ -29,27 +30,8 @@ fn refused(code: u32) -> Firing
 fn laid_out(entry: &[u8]) -> bool
     ensures { result ≡ laid_out entry.now }
 {
-    if bytes::byte_at(entry, 0) != 3 {
-        return false;
-    }
     let count = bytes::byte_at(entry, 1) as usize;
-    if count < 1 {
-        return false;
-    }
-    if 16 < count {
-        return false;
-    }
-    entry.len() == 2 + 6 * count
-}
-
-// The higher of two temperatures.
-fn higher(a: u16, b: u16) -> u16
-    ensures { result ≡ max a b }
-{
-    if a < b {
-        return b;
-    }
-    a
+    (bytes::byte_at(entry, 0) == 3) & (1 <= count) & (count <= 16) & (entry.len() == 2 + 6 * count)
 }
 
 // The total time and the peak of a firing; 19 for an entry that has none of the shapes, 26 for one that is no firing or breaks the rules.
@@ -62,21 +44,17 @@ pub fn report(entry: &[u8]) -> Firing
     if !laid_out(entry) {
         return refused(26);
     }
-    let mut left = bytes::byte_at(entry, 1) as usize;
-    let mut at = 2;
     let mut before = 20;
     let mut minutes = 0;
     let mut peak = 0;
-    while 0 < left {
-        let s = segment::first(bytes::from(entry, at));
+    for k in 0..bytes::byte_at(entry, 1) as usize {
+        let s = segment::first(bytes::from(entry, 2 + 6 * k));
         if !segment::fits(before, s) {
             return refused(26);
         }
         minutes += segment::minutes(before, s);
         before = s.target;
-        peak = higher(peak, before);
-        at += 6;
-        left -= 1;
+        peak = peak.max(before);
     }
     Firing {
         code: 0,
@@ -89,8 +67,5 @@ pub fn report(entry: &[u8]) -> Firing
 pub fn rules_kept(entry: &[u8]) -> bool
     ensures { result ≡ rules_kept entry.now }
 {
-    if bytes::byte_at(entry, 0) != 3 {
-        return true;
-    }
-    report(entry).code == 0
+    bytes::byte_at(entry, 0) != 3 || report(entry).code == 0
 }

@@ -1,6 +1,6 @@
 // One segment of a firing (document 02, d): its six bytes, the rules that it keeps, and how long it lasts.
-ghost use Rattle.std.specs.Prelude.{◌≡◌, nat_abs};
-ghost use Rattle.firing.specs.Schedule.{twos_complement, segment_of, change, same_sign, sign_fits, segment_fits, segment_minutes};
+ghost use Rattle.std.specs.Prelude.{◌≡◌};
+ghost use Rattle.firing.specs.Schedule.{segment_of, change, same_sign, sign_fits, segment_fits, segment_minutes};
 
 use sha256::bytes;
 
@@ -12,48 +12,22 @@ pub struct Segment {
     pub hold: u16,
 }
 
-// The number that two bytes stand for in two's complement.
-fn signed(bits: u16) -> i16
-    ensures { result ≡ twos_complement bits }
-{
-    if bits < 32768 {
-        return bits as i16;
-    }
-    (bits as i32 - 65536) as i16
-}
-
 // The segment in the first six bytes.
 pub fn first(s: &[u8]) -> Segment
     ensures { result ≡ segment_of s.now }
 {
-    let rate = signed(bytes::u16_at(s, 0));
-    let target = bytes::u16_at(s, 2);
-    let hold = bytes::u16_at(s, 4);
-    Segment { rate, target, hold }
-}
-
-// The size of a number. The lowest one of 32 bits, like the rate -32,768 of 16, has no size in as many bits with a sign, so it is negated
-// at 64.
-pub fn size(x: i32) -> u32
-    ensures { result ≡ nat_abs x }
-{
-    if x < 0 {
-        return (0 - x as i64) as u32;
+    Segment {
+        rate: bytes::u16_at(s, 0).cast_signed(),
+        target: bytes::u16_at(s, 2),
+        hold: bytes::u16_at(s, 4),
     }
-    x as u32
 }
 
 // Whether two numbers are both below 0, both above it, or both 0.
 fn same_sign(a: i32, b: i32) -> bool
     ensures { result ≡ same_sign a b }
 {
-    if a < 0 {
-        return b < 0;
-    }
-    if 0 < a {
-        return 0 < b;
-    }
-    b == 0
+    a.signum() == b.signum()
 }
 
 // The target minus the temperature before.
@@ -74,19 +48,11 @@ pub fn sign_fits(before: u16, s: Segment) -> bool
 pub fn fits(before: u16, s: Segment) -> bool
     ensures { result ≡ segment_fits before s }
 {
-    if 600 < size(s.rate as i32) {
-        return false;
-    }
-    if s.target < 20 {
-        return false;
-    }
-    if 1350 < s.target {
-        return false;
-    }
-    if 5999 < s.hold {
-        return false;
-    }
-    sign_fits(before, s)
+    (s.rate.unsigned_abs() <= 600)
+        & (20 <= s.target)
+        & (s.target <= 1350)
+        & (s.hold <= 5999)
+        & sign_fits(before, s)
 }
 
 // How long the segment lasts from a temperature on: the change at the rate's size, rounded up to whole minutes, and the hold.
@@ -94,10 +60,10 @@ pub fn minutes(before: u16, s: Segment) -> u32
     ensures { result ≡ segment_minutes before s }
 {
     let hold = s.hold as u32;
-    let rate = size(s.rate as i32);
+    let rate = s.rate.unsigned_abs() as u32;
     if rate == 0 {
         return hold;
     }
-    let difference = size(change_from(before, s));
-    (60 * difference + (rate - 1)) / rate + hold
+    let difference = s.target.abs_diff(before) as u32;
+    (60 * difference).div_ceil(rate) + hold
 }

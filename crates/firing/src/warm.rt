@@ -6,7 +6,8 @@ use super::segment::Segment;
 use super::{schedule, segment};
 use sha256::bytes;
 
-// What is reported of an entry and a range of starts: the code, and where it is 0 the least and the greatest total of minutes.
+// What is reported of an entry and a range of starts: the code, and where it is 0 the least and the greatest total of minutes. The code
+// is a number beside these, and no `Result`: C reads it.
 #[repr(C)]
 #[derive(Clone, Copy)]
 pub struct Totals {
@@ -31,16 +32,10 @@ fn refused(code: u32) -> Totals
 fn starts_fit(first: Segment, from: u32, to: u32) -> bool
     ensures { result ≡ starts_fit first from to }
 {
-    if to < from {
+    if to < from || 1350 < to {
         return false;
     }
-    if 1350 < to {
-        return false;
-    }
-    if !segment::sign_fits(from as u16, first) {
-        return false;
-    }
-    segment::sign_fits(to as u16, first)
+    segment::sign_fits(from as u16, first) & segment::sign_fits(to as u16, first)
 }
 
 // The least and the greatest total time of a firing from the whole starts in a range; 19 and 26 as in its report, which is judged from 20,

@@ -137,9 +137,8 @@ fn print_segment(rt: &impl Print, s: Segment, minutes: u32) -> io::Result<()> {
 
 // A segment's rate, with a minus sign where it cools.
 fn print_rate(rt: &impl Print, s: Segment) -> io::Result<()> {
-    let rate = s.rate as i32;
-    if rate < 0 {
+    if s.rate < 0 {
         print::text(rt, b"-")?;
     }
-    print::number(rt, b"", segment::size(rate) as usize)
+    print::number(rt, b"", s.rate.unsigned_abs() as usize)
 }

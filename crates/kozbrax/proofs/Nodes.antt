@@ -1,21 +1,21 @@
 -- The nodes of a cover, written five bytes at a time.
 use mathlib.Core.Path.{◌≡◌, refl, ◌∙◌, sym, ap}
-use mathlib.Core.Bool.{true, false}
+use mathlib.Core.Bool.{true}
 use mathlib.Core.List.{List, [], ◌∷◌, ◌++◌, append_assoc, append-nil}
-use Prim.Native.Nat.{ℕ, ◌+◌, ◌*◌, ◌/◌, ◌%◌, ◌≤◌, ◌<◌, max}
+use Prim.Native.Nat.{ℕ, ◌+◌, ◌*◌, ◌/◌, ◌≤◌, ◌<◌, max}
 use native.Mathlib.Numerals.{add-one}
 use native.Mathlib.Omega.{arith}
 use lib.Dec.{leb}
 use lib.ListN.{length, take, get_or, length-append}
 use lib.Seq.{take-suc, take_all, length-take-le}
-use borrow.Author.Tests.{le-leb, lt-leb, leb-true}
+use borrow.Author.Tests.{leb-true}
 use Rattle.sha256.specs.Bytes.{be, written}
 use Rattle.sha256.proofs.Laws.{be-length, written-fits, written-not, written_twice}
 use Rattle.tree.specs.Cover.{at, cover, peaks, tiles}
 use Rattle.tree.specs.declared.cover.Node.{Node}
 use Rattle.tree.proofs.Cases.{and-true}
 use Rattle.tree.proofs.Tiles.{tiles_few}
-use Rattle.kozbrax.specs.Tree.{none, nodes_bytes, cover_asked, cover_given, cover_left}
+use Rattle.kozbrax.specs.Tree.{nodes_bytes, cover_asked}
 
 nodes-append : (xs ys : List Node) → nodes_bytes (xs ++ ys) ≡ nodes_bytes xs ++ nodes_bytes ys
 unfolding nodes_bytes
@@ -60,28 +60,15 @@ pub nodes_all : (d e : List ℕ) (xs : List Node) (k n : ℕ) → n ≡ length x
 nodes_all d e xs k n en ek ee = ee ∙ ap (λ (ns : List Node). written d 0 (nodes_bytes ns)) (take_all k xs (omega arith))
 
 -- a cover has no more nodes than positions
-pub cover_few : (v w : ℕ) → v ≤ w → length (cover v w) ≤ w
+pub cover_most : (v w : ℕ) → length (cover v w) ≤ v + w
+unfolding cover peaks
+cover_most v w = rw (length-append (tiles 0 v) (tiles v w)) (omega (arith, tiles_few 0 v, tiles_few v w))
+
+cover_few : (v w : ℕ) → v ≤ w → length (cover v w) ≤ w
 unfolding cover peaks
 cover_few v w h = rw (length-append (tiles 0 v) (tiles v w)) (omega (arith, tiles_few 0 v, tiles_few v w))
 
--- the test of the cover asked for, by the way through it
 module _ (v w : ℕ) (d : List ℕ) where
-  pub asked_below : w < v → false ≡ cover_asked v w d
-  unfolding cover_asked
-  asked_below h = rw (lt-leb (max v 1) w (omega arith))
-
-  pub asked-zero : w < 1 → false ≡ cover_asked v w d
-  unfolding cover_asked
-  asked-zero h = rw (lt-leb (max v 1) w (omega arith))
-
-  pub asked-above : v ≤ w → 1 ≤ w → 1048576 < w → false ≡ cover_asked v w d
-  unfolding cover_asked
-  asked-above a b h = rw (le-leb (max v 1) w (omega arith), lt-leb w 1048576 h)
-
-  pub asked-rest : (n : ℕ) → v ≤ w → 1 ≤ w → w ≤ 1048576 → n ≡ length (cover v w) → leb (5 * n) (length d) ≡ cover_asked v w d
-  unfolding cover_asked
-  asked-rest n a b h e = rw (le-leb (max v 1) w (omega arith), le-leb w 1048576 h, e)
-
   asked-told : cover_asked v w d ≡ true → (v ≤ w) × (w ≤ 1048576)
   unfolding cover_asked
   asked-told e =
@@ -90,14 +77,6 @@ module _ (v w : ℕ) (d : List ℕ) where
       let x = leb-true (max v 1) w t.0 in
       (omega arith, leb-true w 1048576 u.0)
 
-  pub cover-refused : cover_asked v w d ≡ false → (none ≡ cover_given v w d) × (d ≡ cover_left v w d)
-  unfolding cover_given cover_left
-  cover-refused f = simp f (refl, refl)
-
-  pub cover-given : (n : ℕ) (after : List ℕ) → cover_asked v w d ≡ true → n ≡ length (cover v w)
-      → after ≡ written d 0 (nodes_bytes (cover v w)) → (n % 4294967296 ≡ cover_given v w d) × (after ≡ cover_left v w d)
-  unfolding cover_given cover_left
-  cover-given n after t e ea =
-      let r = asked-told t in
-      let small : n % 4294967296 ≡ length (cover v w) = omega (arith, cover_few v w r.0) in
-      simp t (small, ea)
+  -- the count of a cover that may be asked for fits 32 bits
+  pub cover_small : cover_asked v w d ≡ true → length (cover v w) ≤ 1048576
+  cover_small t = let r = asked-told t in omega (arith, cover_few v w r.0)

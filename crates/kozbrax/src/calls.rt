@@ -1,4 +1,4 @@
-// The server's and the user's calls, over the bytes that are lent.
+// The server's and the user's calls, over the bytes that are lent. Each takes its buffers and settings one by one, as C passes them.
 ghost use Rattle.std.specs.Prelude.{◌≡◌};
 ghost use Rattle.tree.specs.Setup.{settings};
 ghost use Rattle.user.specs.Outcome.{key_of};

@@ -4,6 +4,7 @@ ghost use Rattle.tree.specs.Cover.{cover as cover_of};
 ghost use Rattle.sha256.specs.Bytes.{written};
 ghost use Rattle.kozbrax.specs.Tree.{nodes_bytes, cover_asked, cover_given, cover_left};
 
+use crate::NONE;
 use sha256::bytes;
 use tree::cover;
 
@@ -11,16 +12,7 @@ use tree::cover;
 fn asked(v: u32, w: u32, nodes: &[u8]) -> bool
     ensures { result ≡ cover_asked v w nodes.now }
 {
-    if w < v {
-        return false;
-    }
-    if w < 1 {
-        return false;
-    }
-    if 1048576 < w {
-        return false;
-    }
-    5 * cover::cover_count(v, w) <= nodes.len()
+    (v.max(1) <= w) & ((w <= 1048576) & (5 * cover::cover_count(v, w) <= nodes.len()))
 }
 
 // Writes the nodes of the cover from v to w, 5 bytes each.
@@ -31,13 +23,9 @@ fn write_nodes(v: u32, w: u32, nodes: &mut [u8])
     if nodes.len() / 5 < n {
         return;
     }
-    let mut k = 0;
-    while k < n {
+    for k in 0..n {
         let node = cover::cover_node(v, w, k);
-        let p = bytes::be4(node.position);
-        let l = [node.level];
-        bytes::put2(nodes, 5 * k, &p, &l);
-        k += 1;
+        bytes::put2(nodes, 5 * k, &bytes::be4(node.position), &[node.level]);
     }
 }
 
@@ -48,8 +36,8 @@ pub extern "C" fn kozbrax_cover(v: u32, w: u32, nodes: &mut [u8]) -> u32
     ensures { (result ≡ cover_given v w nodes.old) × (nodes.new ≡ cover_left v w nodes.old) }
 {
     if !asked(v, w, nodes) {
-        return 4294967295;
+        return NONE;
     }
     write_nodes(v, w, nodes);
-    (cover::cover_count(v, w) % 4294967296) as u32
+    cover::cover_count(v, w) as u32
 }

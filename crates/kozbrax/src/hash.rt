@@ -14,10 +14,7 @@ fn give(hash: [u8; 32], out: &mut [u8]) -> u32
     ensures { (result ≡ hash_code out.old) × (out.new ≡ written out.old 0 hash) }
 {
     bytes::put(out, 0, &hash);
-    if out.len() < 32 {
-        return 21;
-    }
-    0
+    if out.len() < 32 { 21 } else { 0 }
 }
 
 // The SHA-256 of the message goes to the first 32 bytes of out: 0, or 21 where out is shorter.
@@ -43,13 +40,7 @@ fn leaves_fit(leaves: &[u8]) -> bool
     ensures { result ≡ leaves_fit leaves.now }
 {
     let n = leaves.len() / 32;
-    if leaves.len() % 32 != 0 {
-        return false;
-    }
-    if n < 1 {
-        return false;
-    }
-    n <= 1048576
+    (leaves.len() % 32 == 0) & ((1 <= n) & (n <= 1048576))
 }
 
 // The digest of leaves of 32 bytes each goes to the first 32 bytes of out: 0, 21 where out is shorter, 24 where the leaves are not
@@ -65,6 +56,6 @@ pub extern "C" fn kozbrax_digest(leaves: &[u8], out: &mut [u8]) -> u32
     if !leaves_fit(leaves) {
         return 24;
     }
-    let n = leaves.len() / 32;
-    give(digest::block_digest(leaves, (n % 4294967296) as u32), out)
+    let count = (leaves.len() / 32) as u32;
+    give(digest::block_digest(leaves, count), out)
 }

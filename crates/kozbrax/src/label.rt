@@ -1,31 +1,22 @@
 // Labels, owners and waits of the log's nodes; 4294967295 answers what is out of range.
-ghost use Rattle.std.specs.Prelude.{◌≡◌, ◌&&◌, leb};
+ghost use Rattle.std.specs.Prelude.{◌≡◌};
 ghost use Rattle.kozbrax.specs.Tree.{is_position, is_count, first_label_given, owner_given, wait_given};
 
+use crate::NONE;
 use tree::label;
-
-// Whether n is in least..most.
-fn is_within(n: u32, least: u32, most: u32) -> bool
-    ensures { result ≡ leb least n && leb n most }
-{
-    if n < least {
-        return false;
-    }
-    n <= most
-}
 
 // Whether p is a position of a log.
 fn is_position(p: u32) -> bool
     ensures { result ≡ is_position p }
 {
-    is_within(p, 1, 1048576)
+    (1 <= p) & (p <= 1048576)
 }
 
 // Whether n servers can hold a log.
 fn is_count(n: u32) -> bool
     ensures { result ≡ is_count n }
 {
-    is_within(n, 2, 16)
+    (2 <= n) & (n <= 16)
 }
 
 // The first label of p's path.
@@ -34,7 +25,7 @@ pub extern "C" fn kozbrax_first_label(p: u32) -> u32
     ensures { result ≡ first_label_given p }
 {
     if !is_position(p) {
-        return 4294967295;
+        return NONE;
     }
     label::first_label(p) as u32
 }
@@ -44,16 +35,10 @@ pub extern "C" fn kozbrax_first_label(p: u32) -> u32
 pub extern "C" fn kozbrax_owner(servers: u32, p: u32, l: u32) -> u32
     ensures { result ≡ owner_given servers p l }
 {
-    if !is_count(servers) {
-        return 4294967295;
+    if !is_count(servers) || !is_position(p) || l > u32::from(label::lg(p)) {
+        return NONE;
     }
-    if !is_position(p) {
-        return 4294967295;
-    }
-    if (label::lg(p) as u32) < l {
-        return 4294967295;
-    }
-    label::owner(servers as u8, p, l as u8) as u32
+    u32::from(label::owner(servers as u8, p, l as u8))
 }
 
 // The wait Q(p, N) where N is `servers`.
@@ -61,11 +46,8 @@ pub extern "C" fn kozbrax_owner(servers: u32, p: u32, l: u32) -> u32
 pub extern "C" fn kozbrax_wait(servers: u32, p: u32) -> u32
     ensures { result ≡ wait_given servers p }
 {
-    if !is_count(servers) {
-        return 4294967295;
+    if !is_count(servers) || !is_position(p) {
+        return NONE;
     }
-    if !is_position(p) {
-        return 4294967295;
-    }
-    label::wait(p, servers as u8) as u32
+    u32::from(label::wait(p, servers as u8))
 }

@@ -8,3 +8,6 @@ mod hash;
 mod label;
 mod schedule;
 mod signature;
+
+// What answers where a number is out of range or there is none.
+const NONE: u32 = u32::MAX;

@@ -5,7 +5,7 @@ ghost use Rattle.lms.specs.Calls.{generate_code, generated, public_key_code, pub
 ghost use Rattle.lms.specs.Check.{check_of};
 ghost use Rattle.kozbrax.specs.Lms.{number_given};
 
-use lms::Checked;
+use crate::NONE;
 
 // The key's tree from a seed and an identifier, nodes 1 to 2,047 in order: 0, or 21 where `tree` is shorter.
 #[unsafe(no_mangle)]
@@ -52,9 +52,5 @@ pub extern "C" fn kozbrax_lms_check(key: &[u8], text: &[u8], signature: &[u8]) -
     ensures { result ≡ number_given (check_of LMOTS_SHA256_N32_W4 LMS_SHA256_M32_H10
         key.now text.now signature.now) }
 {
-    let answer = lms::check(6, 3, key, text, signature);
-    match answer {
-        Checked::Number(number) => number,
-        Checked::No => 4294967295,
-    }
+    lms::check(6, 3, key, text, signature).unwrap_or(NONE)
 }

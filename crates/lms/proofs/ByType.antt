@@ -2,6 +2,7 @@
 use mathlib.Core.Path.{◌≡◌, refl, ◌∙◌, sym, subst}
 use mathlib.Core.Bool.{Bool, true, false, cond, ◌&&◌, false≢true}
 use mathlib.Core.List.{List}
+use Rattle.std.specs.Prelude.{None}
 use mathlib.Core.Logic.{⊎_elim, ◌⊎◌, inl, inr}
 use Prim.Native.Nat.{ℕ, ◌^◌, ◌≤◌, ◌<◌}
 use native.Mathlib.Omega.{arith}
@@ -12,7 +13,6 @@ use Rattle.sha256.specs.Bytes.{number_at}
 use Rattle.sha256.proofs.Cases.{by_bool}
 use Rattle.lms.specs.declared.Ots.{Ots}
 use Rattle.lms.specs.declared.Lms.{Lms}
-use Rattle.lms.specs.declared.Checked.{Checked}
 use Rattle.lms.specs.Types.{LMOTS_SHA256_N32_W1, LMOTS_SHA256_N32_W2, LMOTS_SHA256_N32_W4, LMOTS_SHA256_N32_W8}
 use Rattle.lms.specs.Types.{LMS_SHA256_M32_H5, LMS_SHA256_M32_H10}
 use Rattle.lms.specs.Inner.{Row}
@@ -186,21 +186,21 @@ key_unfit o l key n =
     (λ e. refl)
 
 refused : (o : Ots) (l : Lms) (key message s : List ℕ) → (key_lms_type key ≡ l.lmstype → key_ots_type key ≡ o.otstype → ⊥)
-    → check_of o l key message s ≡ Checked.No
+    → check_of o l key message s ≡ None
 unfolding check_of
 refused o l key message s n = rw (key_unfit o l key n)
 
 module _ (lmstype otstype : ℕ) (key message s : List ℕ) where
   -- under a set a key of other types is refused
   pub other_key-refused : is_set lmstype otstype ≡ true → (key_lms_type key ≡ lmstype → key_ots_type key ≡ otstype → ⊥)
-      → check_of (ots_of otstype) (lms_of lmstype) key message s ≡ Checked.No
+      → check_of (ots_of otstype) (lms_of lmstype) key message s ≡ None
   other_key-refused e n =
       let r = set-rows lmstype otstype e in
       refused (ots_of otstype) (lms_of lmstype) key message s (λ a b. n (a ∙ r.0) (b ∙ r.1))
 
   -- a key of a set is refused under any other pair of types, a set or not
   pub other_types_refuse : is_set (key_lms_type key) (key_ots_type key) ≡ true → (key_lms_type key ≡ lmstype → key_ots_type key ≡ otstype → ⊥)
-      → check_of (ots_of otstype) (lms_of lmstype) key message s ≡ Checked.No
+      → check_of (ots_of otstype) (lms_of lmstype) key message s ≡ None
   other_types_refuse e n =
       let k = set_types (key_lms_type key) (key_ots_type key) e in
       refused (ots_of otstype) (lms_of lmstype) key message s
@@ -210,7 +210,7 @@ module _ (lmstype otstype : ℕ) (key message s : List ℕ) where
 
 -- a key whose types are no set is refused under its own types
 pub no_set-refused : (key message s : List ℕ) → is_set (key_lms_type key) (key_ots_type key) ≡ false
-    → check_of (ots_of (key_ots_type key)) (lms_of (key_lms_type key)) key message s ≡ Checked.No
+    → check_of (ots_of (key_ots_type key)) (lms_of (key_lms_type key)) key message s ≡ None
 no_set-refused key message s e =
     refused (ots_of (key_ots_type key)) (lms_of (key_lms_type key)) key message s
     (λ a b. false≢true (sym e ∙ rows-set (key_lms_type key) (key_ots_type key) (sym a) (sym b)))

@@ -1,13 +1,12 @@
 -- The digits of a string, for every width of at most eight bits.
 use mathlib.Core.Path.{◌≡◌}
 use mathlib.Core.List.{List}
-use Prim.Native.Nat.{ℕ, suc, ◌+◌, ◌-◌, ◌*◌, ◌/◌, ◌%◌, ◌^◌, ◌≤◌, ◌<◌}
-use native.Mathlib.Nat.{mod-lt, mul-suc, mul-le-mul, mul-le-mul_left, mul-div-le, le-div_iff_mul-le}
+use Prim.Native.Nat.{ℕ, ◌+◌, ◌-◌, ◌*◌, ◌/◌, ◌%◌, ◌^◌, ◌≤◌}
+use native.Mathlib.Nat.{mod-lt}
 use native.Mathlib.Numerals.{add-one}
 use native.Mathlib.Omega.{arith}
 use lib.Pow.{pow_pos, pow_mono, le_ones}
 use lib.ListN.{get_or}
-use Rattle.sha256.specs.Bytes.{be}
 use Rattle.lms.specs.Ots.{coef, sum_to}
 
 pub power_most : (w : ℕ) → w ≤ 8 → 2 ^ w ≤ 256
@@ -15,19 +14,6 @@ power_most w h = pow_mono {j = 8} h
 
 pub power_held : (w : ℕ) → w ≤ 8 → 1 * 2 ^ w % 18446744073709551616 ≡ 2 ^ w
 power_held w h = omega (arith, power_most w h)
-
-pub values_in_byte : (w : ℕ) → 0 < w → w ≤ 8 → 0 < 8 / w
-values_in_byte w s h = (le-div_iff_mul-le s).1 (omega arith)
-
--- the shift that brings a value down
-pub shift_most : (w i : ℕ) → 0 < w → w ≤ 8 → w * (i % (8 / w)) + w ≤ 8
-shift_most w i s h =
-    let below : suc (i % (8 / w)) ≤ 8 / w = mod-lt i (values_in_byte w s h) in
-    let up : w * suc (i % (8 / w)) ≤ w * (8 / w) = mul-le-mul_left w below in
-    omega (arith, mul-suc w (i % (8 / w)), mul-div-le 8 w)
-
-pub place-most : (w i : ℕ) → w ≤ 8 → i ≤ 65535 → i * w ≤ 524280
-place-most w i h g = mul-le-mul g h
 
 pub coef-most : (s : List ℕ) (i w : ℕ) → coef s i w ≤ 2 ^ w - 1
 unfolding coef

@@ -2,6 +2,7 @@
 use mathlib.Core.Path.{◌≡◌, refl, ◌∙◌, sym, ap}
 use mathlib.Core.Bool.{true}
 use mathlib.Core.List.{List, ◌++◌, append_assoc}
+use Rattle.std.specs.Prelude.{Some}
 use Prim.Native.Nat.{ℕ, ◌+◌, ◌-◌, ◌*◌, ◌^◌, ◌≤◌, ◌<◌, suc}
 use native.Mathlib.Nat.{add-zero, pow-suc}
 use native.Mathlib.Omega.{arith}
@@ -17,7 +18,6 @@ use Rattle.lms.specs.Ots.{K, text_hash, opened, ots_signature}
 use Rattle.lms.specs.Tree.{leaf, T, tree_bytes, tree_size, public_key}
 use Rattle.lms.specs.Signature.{node_at, path, signature, signature_size}
 use Rattle.lms.specs.Check.{Tc, key_fits, type_place, signature_fits, root_of, check_of}
-use Rattle.lms.specs.declared.Checked.{Checked}
 use Rattle.lms.specs.Claims.{Set, RoundTrip, SignatureLength, TextHashed, CallsRoundTrip}
 use Rattle.sha256.proofs.Words.{number-drop}
 use Rattle.sha256.proofs.Laws.{be-length, number-be, eqs_refl, written-fits}
@@ -233,7 +233,7 @@ calls-round_trip o l set I SEED C message tree pk place q li lc few room pk-room
     ap length e ∙ length-append (tree_bytes o l.h I SEED) (drop (tree_size l.h) tree) in
     let whole : tree_size l.h ≤ length t = omega (arith, tree-length o l.h I SEED) in
     let one : 1 < 2 ^ suc l.h = omega (arith, pow-suc 2 l.h, pow_pos l.h) in
-    let accepted : check_of o l (public_key o l I (node_at t 1)) message (signature o l I SEED q C message t) ≡ Checked.Number q =
+    let accepted : check_of o l (public_key o l I (node_at t 1)) message (signature o l I SEED q C message t) ≡ Some q =
     rw (e, node_in_tree o l.h I SEED 1 (drop (tree_size l.h) tree) (omega arith) one)
     (round_trip o l set I SEED C message (drop (tree_size l.h) tree) q li lc few) in (
       grown o l I SEED tree room,

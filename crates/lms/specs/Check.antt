@@ -1,12 +1,11 @@
 -- RFC 8554, section 5.4.2: the check of a signature, Algorithms 6 and 6a.
-use Rattle.std.specs.Prelude.{Bool, true, false, cond, ◌&&◌, List, ℕ, zero, suc, ◌+◌, ◌*◌, ◌/◌, ◌%◌, ◌^◌, eqb, ltb, length, take, drop}
+use Rattle.std.specs.Prelude.{Option, Some, None, Bool, true, false, cond, ◌&&◌, List, ℕ, zero, suc, ◌+◌, ◌*◌, ◌/◌, ◌%◌, ◌^◌, eqb, ltb, length, take, drop}
 use Rattle.sha256.specs.Bytes.{number_at, eqs}
 use Rattle.lms.specs.declared.Ots.{Ots}
 use Rattle.lms.specs.declared.Lms.{Lms}
 use Rattle.lms.specs.Ots.{Kc}
 use Rattle.lms.specs.Tree.{leaf, inner}
 use Rattle.lms.specs.Signature.{signature_size}
-use Rattle.lms.specs.declared.Checked.{Checked}
 
 -- Algorithm 6a, step 4, one turn: the node above node_num, from tmp and path[i].
 unfoldable pub above : List ℕ → ℕ → List ℕ → List ℕ → List ℕ
@@ -41,11 +40,11 @@ unfoldable pub root_of : Ots → Lms → List ℕ → List ℕ → List ℕ → 
 root_of o l key m s = Tc o l.h (take 16 (drop 8 key)) (number_at 4 s 0) (take 32 (drop 8 s)) (drop 40 s) (drop (type_place o + 4) s) m
 
 -- Algorithm 6: VALID with the number q that was used, or INVALID.
-unfoldable pub check_of : Ots → Lms → List ℕ → List ℕ → List ℕ → Checked
+unfoldable pub check_of : Ots → Lms → List ℕ → List ℕ → List ℕ → Option ℕ
 check_of o l key message s = let valid = key_fits o l key && (signature_fits o l s && eqs (root_of o l key message s) (drop 24 key)) in
-    cond valid (Checked.Number (number_at 4 s 0)) Checked.No
+    cond valid (Some (number_at 4 s 0)) None
 
 -- Whether an answer is VALID.
-abbrev pub is_valid : Checked → Bool
-is_valid Checked.No = false
-is_valid (Checked.Number q) = true
+abbrev pub is_valid : Option ℕ → Bool
+is_valid None = false
+is_valid (Some q) = true

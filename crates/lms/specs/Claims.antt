@@ -1,5 +1,5 @@
 -- What holds of every key and signature, for each width and height.
-use Rattle.std.specs.Prelude.{◌≡◌, List, ◌++◌, ℕ, ◌^◌, ◌<◌, ◌≤◌, length, take}
+use Rattle.std.specs.Prelude.{Some, ◌≡◌, List, ◌++◌, ℕ, ◌^◌, ◌<◌, ◌≤◌, length, take}
 use Rattle.sha256.specs.Hash.{sha256}
 use Rattle.lms.specs.Types.{u16str, u32str, D_MESG}
 use Rattle.lms.specs.declared.Ots.{Ots}
@@ -9,7 +9,6 @@ use Rattle.lms.specs.Tree.{T, tree_bytes, tree_size, public_key}
 use Rattle.lms.specs.Signature.{signature, signature_size}
 use Rattle.lms.specs.Calls.{generate_code, generated, public_key_code, public_key_written, sign_code, signed}
 use Rattle.lms.specs.Check.{check_of}
-use Rattle.lms.specs.declared.Checked.{Checked}
 
 -- Types and numbers fit the four bytes that a key and a signature have for each. Every row of the RFC's tables does.
 pub record Set (o : Ots) (l : Lms) : Type 0 where
@@ -23,7 +22,7 @@ unfoldable pub RoundTrip : Type 0
 RoundTrip =
     (o : Ots) (l : Lms) → Set o l → (I SEED C message rest : List ℕ) (q : ℕ) → length I ≡ 16 → length C ≡ 32 → q < 2 ^ l.h
     → check_of o l (public_key o l I (T o l.h I SEED 1)) message (signature o l I SEED q C message (tree_bytes o l.h I SEED ++ rest))
-    ≡ Checked.Number q
+    ≡ Some q
 
 -- A signature has 12 + n * (p + 1) + m * h bytes, whatever the bytes of the tree are.
 unfoldable pub SignatureLength : Type 0
@@ -47,4 +46,4 @@ CallsRoundTrip =
     × (sign_code o l q (generated o l I SEED tree) place ≡ 0)
     × (check_of o l (take 56 (public_key_written o l I (generated o l I SEED tree) key)) message
     (take (signature_size o l) (signed o l I SEED q C message (generated o l I SEED tree) place))
-    ≡ Checked.Number q)
+    ≡ Some q)

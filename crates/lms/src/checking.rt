@@ -1,66 +1,61 @@
 // RFC 8554, section 5.4.2: the candidate root of a signature, Algorithm 6a.
 ghost use Rattle.std.specs.Prelude.{◌≡◌, true, ◌≤◌, length, take, drop};
-ghost use Rattle.lms.specs.Inner.{Row};
 ghost use Rattle.lms.specs.Check.{above as above_of, climb as climb_of, key_fits, signature_fits, root_of, check_of};
 
-use crate::{Checked, Lms, Ots, onetime, sets, tree};
+use crate::place::Place;
+use crate::sets::Rows;
+use crate::{onetime, tree};
 use sha256::bytes;
 
-// The node above node n, whose hash is t, from the node beside it.
-fn above(id: [u8; 16], n: u32, t: [u8; 32], beside: &[u8]) -> [u8; 32]
-    ensures { result ≡ above_of id n t beside.now }
+// The node above a node, whose hash is t, from the node beside it.
+fn above(node: Place, t: [u8; 32], beside: &[u8]) -> [u8; 32]
+    ensures { result ≡ above_of node.id node.number t beside.now }
 {
-    if n % 2 == 1 {
-        return tree::inner(id, n / 2, beside, &t);
+    let up = Place {
+        number: node.number / 2,
+        ..node
+    };
+    if node.number % 2 == 1 {
+        tree::inner(up, beside, &t)
+    } else {
+        tree::inner(up, &t, beside)
     }
-    tree::inner(id, n / 2, &t, beside)
 }
 
-// The hash h levels above node n, whose hash is t, along a path.
-fn climb(h: usize, id: [u8; 16], path: &[u8], n: u32, t: [u8; 32]) -> [u8; 32]
-    requires { h ≤ 25 }
-    ensures { result ≡ climb_of id path.now n t h }
+// The hash as many levels above a node, whose hash is t, along a path, as the tree is high.
+fn climb(rows: &Rows, path: &[u8], node: Place, t: [u8; 32]) -> [u8; 32]
+    ensures { result ≡ climb_of node.id path.now node.number t rows.now.lms.h }
 {
+    let h = rows.lms.h;
     let mut x = t;
-    let mut i = 0;
-    while i < h {
-        let next = above(id, n >> i, x, bytes::front(bytes::from(path, 32 * i), 32));
+    for i in 0..h {
+        let way = Place {
+            number: node.number >> i,
+            ..node
+        };
+        let next = above(way, x, bytes::front(bytes::from(path, 32 * i), 32));
         x = next;
-        i += 1;
     }
     x
 }
 
 // Whether a key is of the set's types and length.
-pub fn key_fits(o: Ots, l: Lms, key: &[u8]) -> bool
-    ensures { result ≡ key_fits o l key.now }
+fn key_fits(rows: &Rows, key: &[u8]) -> bool
+    ensures { result ≡ key_fits rows.now.ots rows.now.lms key.now }
 {
-    if key.len() != 56 {
-        return false;
-    }
-    if bytes::u32_at(key, 0) != l.lmstype {
-        return false;
-    }
-    bytes::u32_at(key, 4) == o.otstype
+    (key.len() == 56)
+        & ((bytes::u32_at(key, 0) == rows.lms.lmstype)
+            & (bytes::u32_at(key, 4) == rows.ots.otstype))
 }
 
 // Whether a signature is of the set's types, length and numbers.
-pub fn signature_fits(o: Ots, l: Lms, s: &[u8]) -> bool
-    requires { Row o × (l.h ≤ 25) }
-    ensures { result ≡ signature_fits o l s.now }
+fn signature_fits(rows: &Rows, s: &[u8]) -> bool
+    ensures { result ≡ signature_fits rows.now.ots rows.now.lms s.now }
 {
-    let p = o.p;
-    let h = l.h;
-    if s.len() != sets::signature_size(o, l) {
-        return false;
-    }
-    if bytes::u32_at(s, 4) != o.otstype {
-        return false;
-    }
-    if bytes::u32_at(s, 8 + 32 * (p + 1)) != l.lmstype {
-        return false;
-    }
-    (bytes::u32_at(s, 0) as usize) < (1 << h)
+    (s.len() == rows.signature_size())
+        & ((bytes::u32_at(s, 4) == rows.ots.otstype)
+            & ((bytes::u32_at(s, 8 + 32 * (rows.ots.p + 1)) == rows.lms.lmstype)
+                & ((bytes::u32_at(s, 0) as usize) < (1 << rows.lms.h))))
 }
 
 // I out of a public key.
@@ -69,45 +64,42 @@ fn id_of(key: &[u8]) -> [u8; 16]
     ensures { result ≡ take 16 (drop 8 key.now) }
 {
     let mut id = [0u8; 16];
-    bytes::put(&mut id, 0, bytes::front(bytes::from(key, 8), 16));
+    id.copy_from_slice(&key[8..24]);
     id
 }
 
 // The candidate root from a key and a signature that fit the set.
-fn root(o: Ots, l: Lms, key: &[u8], text: &[u8], s: &[u8]) -> [u8; 32]
-    requires { Row o × ((l.h ≤ 25) × ((key_fits o l key.now ≡ true) × (signature_fits o l s.now ≡ true))) }
-    ensures { result ≡ root_of o l key.now text.now s.now }
+fn root(rows: &Rows, key: &[u8], text: &[u8], s: &[u8]) -> [u8; 32]
+    requires { (key_fits rows.now.ots rows.now.lms key.now ≡ true)
+        × (signature_fits rows.now.ots rows.now.lms s.now ≡ true) }
+    ensures { result ≡ root_of rows.now.ots rows.now.lms key.now text.now s.now }
 {
     let id = id_of(key);
     let q = bytes::u32_at(s, 0);
-    let h = l.h;
-    let n = (1 << h) + q;
-    let t = onetime::text_hash(id, q, bytes::front(bytes::from(s, 8), 32), text);
-    let k = onetime::candidate(o, id, q, t, bytes::from(s, 40));
-    let p = o.p;
-    climb(
-        h,
+    let used = Place { id, number: q };
+    let leaf = Place {
         id,
-        bytes::from(s, 12 + 32 * (p + 1)),
-        n,
-        tree::leaf(id, n, k),
-    )
+        number: (1 << rows.lms.h) + q,
+    };
+    let t = onetime::text_hash(used, bytes::front(bytes::from(s, 8), 32), text);
+    let k = onetime::candidate(rows, used, t, bytes::from(s, 40));
+    let path = bytes::from(s, 12 + 32 * (rows.ots.p + 1));
+    climb(rows, path, leaf, tree::leaf(leaf, k))
 }
 
 // The number that a valid signature used.
-pub fn check(o: Ots, l: Lms, key: &[u8], text: &[u8], s: &[u8]) -> Checked
-    requires { Row o × (l.h ≤ 25) }
-    ensures { result ≡ check_of o l key.now text.now s.now }
+pub fn check(rows: &Rows, key: &[u8], text: &[u8], s: &[u8]) -> Option<u32>
+    ensures { result ≡ check_of rows.now.ots rows.now.lms key.now text.now s.now }
 {
-    if !key_fits(o, l, key) {
-        return Checked::No;
+    if !key_fits(rows, key) {
+        return None;
     }
-    if !signature_fits(o, l, s) {
-        return Checked::No;
+    if !signature_fits(rows, s) {
+        return None;
     }
-    let x = root(o, l, key, text, s);
+    let x = root(rows, key, text, s);
     if !bytes::same(&x, bytes::from(key, 24)) {
-        return Checked::No;
+        return None;
     }
-    Checked::Number(bytes::u32_at(s, 0))
+    Some(bytes::u32_at(s, 0))
 }

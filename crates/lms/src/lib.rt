@@ -1,5 +1,6 @@
 // LMS signatures with SHA-256, RFC 8554. What is below the entry points works for each width and height of the RFC's tables. The entry
 // points take the two types that a public key names, the LMS type first; a pair that is no set acts by rows of types that no set has.
+// They answer 0, 17 and 21 as numbers, since these are the codes that C gets (include/kozbrax.h).
 #![tactic(auto)]
 
 ghost use Rattle.std.specs.Prelude.{◌≡◌};
@@ -9,10 +10,13 @@ ghost use Rattle.lms.specs.Calls.{generate_code, generated, public_key_code, pub
 
 mod checking;
 mod onetime;
+mod place;
 mod sets;
 mod signing;
 mod tree;
 
+use crate::place::Place;
+use crate::sets::Rows;
 use sha256::{bytes, link};
 
 // RFC 8554, section 4.1: a row of Table 1, with n = 32.
@@ -31,26 +35,17 @@ pub struct Lms {
     pub h: usize,
 }
 
-// What a check answers: no, or the number that the signature used.
-#[derive(Clone, Copy)]
-pub enum Checked {
-    No,
-    Number(u32),
-}
-
 // Fills the first bytes of a lent buffer with the key's tree, nodes 1 to 2^(h+1) - 1: 0; what follows stays. 21 where the buffer is
 // shorter, and nothing is written. The tree has 65,504 bytes for type 6; 1,135,614 compressions for types 6 and 3.
 pub fn generate(lmstype: u32, otstype: u32, seed: [u8; 32], id: [u8; 16], nodes: &mut [u8]) -> u32
     ensures { (result ≡ generate_code (lms_of lmstype) nodes.old)
         × (nodes.new ≡ generated (ots_of otstype) (lms_of lmstype) id seed nodes.old) }
 {
-    let l = sets::lms(lmstype);
-    let h = l.h;
-    if nodes.len() < sets::tree_size(h) {
+    let rows = Rows::of(lmstype, otstype);
+    if nodes.len() < rows.tree_size() {
         return 21;
     }
-    let s = link::words(&seed);
-    tree::grow(sets::ots(otstype), h, id, s, nodes);
+    tree::grow(&rows, id, link::words(&seed), nodes);
     0
 }
 
@@ -59,16 +54,15 @@ pub fn public_key(lmstype: u32, otstype: u32, id: [u8; 16], nodes: &[u8], key: &
     ensures { (result ≡ public_key_code (lms_of lmstype) nodes.now key.old)
         × (key.new ≡ public_key_written (ots_of otstype) (lms_of lmstype) id nodes.now key.old) }
 {
-    let o = sets::ots(otstype);
-    let l = sets::lms(lmstype);
-    if nodes.len() < sets::tree_size(l.h) {
+    let rows = Rows::of(lmstype, otstype);
+    if nodes.len() < rows.tree_size() {
         return 21;
     }
     if key.len() < 56 {
         return 21;
     }
-    bytes::put(key, 0, &bytes::be4(l.lmstype));
-    bytes::put(key, 4, &bytes::be4(o.otstype));
+    bytes::put(key, 0, &bytes::be4(rows.lms.lmstype));
+    bytes::put(key, 4, &bytes::be4(rows.ots.otstype));
     bytes::put(key, 8, &id);
     bytes::put(key, 24, bytes::front(nodes, 32));
     0
@@ -92,37 +86,40 @@ pub fn sign(
         × (place.new ≡ signed (ots_of otstype) (lms_of lmstype) id seed number randomizer
         text.now nodes.now place.old) }
 {
-    let o = sets::ots(otstype);
-    let l = sets::lms(lmstype);
-    let h = l.h;
-    if nodes.len() < sets::tree_size(h) {
+    let rows = Rows::of(lmstype, otstype);
+    if nodes.len() < rows.tree_size() {
         return 21;
     }
-    if place.len() < sets::signature_size(o, l) {
+    if place.len() < rows.signature_size() {
         return 21;
     }
-    if (1 << h) <= number {
+    if (1 << rows.lms.h) <= number {
         return 17;
     }
-    let s = link::words(&seed);
-    signing::signature(o, l, id, s, number, randomizer, text, nodes, place);
+    let key = Place { id, number };
+    signing::signature(
+        &rows,
+        key,
+        link::words(&seed),
+        randomizer,
+        text,
+        nodes,
+        place,
+    );
     0
 }
 
-// The number that a signature used, or No wherever RFC 8554 says INVALID. A key of a set is taken under its own two types alone. For types
-// 6 and 3 1,062 - d compressions for 54 bytes of text, d the sum of the 67 digits.
-pub fn check(lmstype: u32, otstype: u32, key: &[u8], text: &[u8], signature: &[u8]) -> Checked
+// The number that a signature used, or None wherever RFC 8554 says INVALID. A key of a set is taken under its own two types alone. For
+// types 6 and 3 1,062 - d compressions for 54 bytes of text, d the sum of the 67 digits.
+pub fn check(lmstype: u32, otstype: u32, key: &[u8], text: &[u8], signature: &[u8]) -> Option<u32>
     ensures { result ≡ check_of (ots_of otstype) (lms_of lmstype) key.now text.now signature.now }
 {
-    checking::check(sets::ots(otstype), sets::lms(lmstype), key, text, signature)
+    checking::check(&Rows::of(lmstype, otstype), key, text, signature)
 }
 
 // Whether a check answered with a number.
-pub fn is_valid(answer: Checked) -> bool
+pub fn is_valid(answer: Option<u32>) -> bool
     ensures { result ≡ is_valid_of answer }
 {
-    match answer {
-        Checked::No => false,
-        Checked::Number(_) => true,
-    }
+    answer.is_some()
 }

@@ -4,17 +4,16 @@ use sha256::bytes;
 use std::io;
 use std::rt::Files;
 
-// Reads an accepted record, with a byte behind its key and its signature, and runs the changes below.
-pub fn run(rt: &(impl Files + Print + Eprint), name: &[u8]) -> io::Result<()> {
-    let mut key = [0u8; 57];
-    let mut signature = [0u8; 2509];
-    let mut message = [0u8; 256];
-    let n = record::fields(rt, name, b".txt", &mut key, &mut signature, &mut message)?;
+// Reads an accepted record, puts a byte behind its key and its signature, and runs the changes below.
+pub fn run(rt: &(impl Files + AllocGlobal + Print + Eprint), name: &str) -> io::Result<()> {
+    let mut r = record::fields(rt, name, ".txt", [57, 2509, 256])?;
+    r.first.resize(57, 0)?;
+    r.second.resize(2509, 0)?;
     each(
         rt,
-        &mut key,
-        bytes::front(&message, n.third),
-        &mut signature,
+        r.first.as_mut_slice(),
+        r.third.as_slice(),
+        r.second.as_mut_slice(),
     )
 }
 
@@ -22,147 +21,92 @@ pub fn run(rt: &(impl Files + Print + Eprint), name: &[u8]) -> io::Result<()> {
 fn each(rt: &impl Print, key: &mut [u8], text: &[u8], signature: &mut [u8]) -> io::Result<()> {
     lengths(rt, key, text, signature)?;
     key_fields(rt, key, text, signature)?;
-    head_fields(rt, key, text, signature)?;
-    other_fields(rt, key, text, signature)?;
-    answered(rt, b"nothing changed", key, text, signature)
+    signature_fields(rt, key, text, signature)?;
+    answered(rt, "nothing changed", key, text, signature)
 }
 
 // Key, signature and text that are too short or too long.
 fn lengths(rt: &impl Print, key: &[u8], text: &[u8], signature: &[u8]) -> io::Result<()> {
     let k = bytes::front(key, 56);
     let s = bytes::front(signature, 2508);
-    report::answer(
-        rt,
-        b"key one byte short",
-        lms::check(6, 3, bytes::front(key, 55), text, s),
-    )?;
-    report::answer(rt, b"key one byte long", lms::check(6, 3, key, text, s))?;
-    report::answer(
-        rt,
-        b"key empty",
-        lms::check(6, 3, bytes::front(key, 0), text, s),
-    )?;
-    report::answer(
-        rt,
-        b"signature one byte short",
-        lms::check(6, 3, k, text, bytes::front(signature, 2507)),
-    )?;
-    report::answer(
-        rt,
-        b"signature one byte long",
-        lms::check(6, 3, k, text, signature),
-    )?;
-    report::answer(
-        rt,
-        b"signature empty",
-        lms::check(6, 3, k, text, bytes::front(signature, 0)),
-    )?;
-    report::answer(
-        rt,
-        b"text one byte short",
-        lms::check(6, 3, k, bytes::from(text, 1), s),
-    )
+    let cases = [
+        ("key one byte short", bytes::front(key, 55), text, s),
+        ("key one byte long", key, text, s),
+        ("key empty", bytes::front(key, 0), text, s),
+        (
+            "signature one byte short",
+            k,
+            text,
+            bytes::front(signature, 2507),
+        ),
+        ("signature one byte long", k, text, signature),
+        ("signature empty", k, text, bytes::front(signature, 0)),
+        ("text one byte short", k, bytes::from(text, 1), s),
+    ];
+    for (name, key, text, signature) in cases {
+        report::answer(rt, name, lms::check(6, 3, key, text, signature))?;
+    }
+    Ok(())
 }
 
-// One field of the key after the other.
+// One field of the key after the other, by a byte of each.
 fn key_fields(rt: &impl Print, key: &mut [u8], text: &[u8], signature: &[u8]) -> io::Result<()> {
-    in_key(rt, b"wrong type in the key", key, 3, text, signature)?;
-    in_key(
-        rt,
-        b"wrong one-time type in the key",
-        key,
-        7,
-        text,
-        signature,
-    )?;
-    in_key(rt, b"wrong I in the key", key, 8, text, signature)?;
-    in_key(rt, b"wrong root in the key", key, 55, text, signature)
+    let fields = [
+        ("wrong type in the key", 3),
+        ("wrong one-time type in the key", 7),
+        ("wrong I in the key", 8),
+        ("wrong root in the key", 55),
+    ];
+    for (name, at) in fields {
+        change(key, at);
+        answered(rt, name, key, text, signature)?;
+        change(key, at);
+    }
+    Ok(())
 }
 
-// One field of the signature's head after the other.
-fn head_fields(rt: &impl Print, key: &[u8], text: &[u8], signature: &mut [u8]) -> io::Result<()> {
-    in_signature(rt, b"wrong number", key, text, signature, 3)?;
-    in_signature(rt, b"number past the tree", key, text, signature, 2)?;
-    in_signature(
-        rt,
-        b"wrong one-time type in the signature",
-        key,
-        text,
-        signature,
-        7,
-    )?;
-    in_signature(rt, b"wrong randomizer", key, text, signature, 8)
-}
-
-// One field of the rest after the other.
-fn other_fields(rt: &impl Print, key: &[u8], text: &[u8], signature: &mut [u8]) -> io::Result<()> {
-    in_signature(rt, b"wrong string y0", key, text, signature, 40)?;
-    in_signature(rt, b"wrong checksum string y66", key, text, signature, 2183)?;
-    in_signature(
-        rt,
-        b"wrong type in the signature",
-        key,
-        text,
-        signature,
-        2187,
-    )?;
-    in_signature(rt, b"wrong path0", key, text, signature, 2188)?;
-    in_signature(rt, b"wrong path9", key, text, signature, 2507)
+// The same of the signature.
+fn signature_fields(
+    rt: &impl Print,
+    key: &[u8],
+    text: &[u8],
+    signature: &mut [u8],
+) -> io::Result<()> {
+    let fields = [
+        ("wrong number", 3),
+        ("number past the tree", 2),
+        ("wrong one-time type in the signature", 7),
+        ("wrong randomizer", 8),
+        ("wrong string y0", 40),
+        ("wrong checksum string y66", 2183),
+        ("wrong type in the signature", 2187),
+        ("wrong path0", 2188),
+        ("wrong path9", 2507),
+    ];
+    for (name, at) in fields {
+        change(signature, at);
+        answered(rt, name, key, text, signature)?;
+        change(signature, at);
+    }
+    Ok(())
 }
 
 // What the check of a record answers.
 fn answered(
     rt: &impl Print,
-    name: &[u8],
+    name: &str,
     key: &[u8],
     text: &[u8],
     signature: &[u8],
 ) -> io::Result<()> {
-    report::answer(
-        rt,
-        name,
-        lms::check(
-            6,
-            3,
-            bytes::front(key, 56),
-            text,
-            bytes::front(signature, 2508),
-        ),
-    )
+    let k = bytes::front(key, 56);
+    let s = bytes::front(signature, 2508);
+    report::answer(rt, name, lms::check(6, 3, k, text, s))
 }
 
-// The check with the byte at a place of the key changed, and changed back.
-fn in_key(
-    rt: &impl Print,
-    name: &[u8],
-    key: &mut [u8],
-    at: usize,
-    text: &[u8],
-    signature: &[u8],
-) -> io::Result<()> {
-    change(key, at);
-    answered(rt, name, key, text, signature)?;
-    change(key, at);
-    Ok(())
-}
-
-// The same for a place of the signature.
-fn in_signature(
-    rt: &impl Print,
-    name: &[u8],
-    key: &[u8],
-    text: &[u8],
-    signature: &mut [u8],
-    at: usize,
-) -> io::Result<()> {
-    change(signature, at);
-    answered(rt, name, key, text, signature)?;
-    change(signature, at);
-    Ok(())
-}
-
+// Changes a byte, or changes it back.
 fn change(s: &mut [u8], at: usize) {
-    if at < s.len() {
-        s[at] = s[at] ^ 4;
+    if let Some(byte) = s.get_mut(at) {
+        *byte ^= 4;
     }
 }

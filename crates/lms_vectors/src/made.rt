@@ -14,26 +14,33 @@ struct Secrets {
 
 // Generates a key from its file, prints its public key and the signature of a record's text with that number, checks it, and runs what is
 // refused.
-pub fn run(rt: &(impl Files + Print + Eprint), name: &[u8], number: u32) -> io::Result<()> {
+pub fn run(
+    rt: &(impl Files + AllocGlobal + Print + Eprint),
+    name: &str,
+    number: u32,
+) -> io::Result<()> {
     let k = read_secrets(rt, name)?;
-    let mut message = [0u8; 256];
-    let m = message_of(rt, name, &mut message)?;
-    let text = bytes::front(&message, m);
+    let text = record::read_record(rt, name)?.third;
     let mut nodes = [0u8; 65536];
-    let seed = k.seed;
-    let id = k.id;
-    let code = lms::generate(6, 3, seed, id, &mut nodes);
-    report::code(rt, name, b" generate: ", code)?;
-    sign_and_check(rt, name, k, number, text, &nodes)?;
-    refusals(rt, name, k, number, text, &nodes)
+    let code = lms::generate(6, 3, k.seed, k.id, &mut nodes);
+    println!(rt; "{name} generate: {code}")?;
+    sign_and_check(rt, name, k, number, &text, &nodes)?;
+    refusals(rt, name, k, number, &text, &nodes)
+}
+
+// The bytes of s, and zeros behind them.
+fn filled<const N: usize>(s: &[u8]) -> [u8; N] {
+    let mut all = [0u8; N];
+    bytes::put(&mut all, 0, s);
+    all
 }
 
 // Reads a key's seed, I and randomizer.
-fn read_secrets(rt: &(impl Files + Eprint), name: &[u8]) -> io::Result<Secrets> {
-    let mut seed = [0u8; 32];
-    let mut id = [0u8; 16];
-    let mut randomizer = [0u8; 32];
-    record::fields(rt, name, b"_key.txt", &mut seed, &mut id, &mut randomizer)?;
+fn read_secrets(rt: &(impl Files + AllocGlobal + Eprint), name: &str) -> io::Result<Secrets> {
+    let k = record::fields(rt, name, "_key.txt", [32, 16, 32])?;
+    let seed = filled(&k.first);
+    let id = filled(&k.second);
+    let randomizer = filled(&k.third);
     Ok(Secrets {
         seed,
         id,
@@ -41,81 +48,67 @@ fn read_secrets(rt: &(impl Files + Eprint), name: &[u8]) -> io::Result<Secrets> 
     })
 }
 
-// The text of a record, and its length.
-fn message_of(rt: &(impl Files + Eprint), name: &[u8], message: &mut [u8]) -> io::Result<usize> {
-    let mut key = [0u8; 56];
-    let mut signature = [0u8; 2508];
-    let n = record::fields(rt, name, b".txt", &mut key, &mut signature, message)?;
-    Ok(n.third)
-}
-
 // Prints the public key and the signature, and checks it.
 fn sign_and_check(
     rt: &impl Print,
-    name: &[u8],
+    name: &str,
     k: Secrets,
     number: u32,
     text: &[u8],
     nodes: &[u8],
 ) -> io::Result<()> {
     let mut key = [0u8; 56];
-    let id = k.id;
-    let code = lms::public_key(6, 3, id, nodes, &mut key);
-    report::code(rt, name, b" public key: ", code)?;
-    report::in_hexadecimal(rt, name, b" public key ", &key)?;
+    let code = lms::public_key(6, 3, k.id, nodes, &mut key);
+    println!(rt; "{name} public key: {code}")?;
+    report::in_hexadecimal(rt, name, "public key", &key)?;
     let mut signature = [0u8; 2508];
-    sign(rt, name, b" sign: ", k, number, text, nodes, &mut signature)?;
-    report::in_hexadecimal(rt, name, b" signature ", &signature)?;
+    sign(rt, name, "sign", k, number, text, nodes, &mut signature)?;
+    report::in_hexadecimal(rt, name, "signature", &signature)?;
     report::answer(rt, name, lms::check(6, 3, &key, text, &signature))
 }
 
 // Signs, and prints the code.
 fn sign(
     rt: &impl Print,
-    name: &[u8],
-    what: &[u8],
+    name: &str,
+    what: &str,
     k: Secrets,
     number: u32,
     text: &[u8],
     nodes: &[u8],
     out: &mut [u8],
 ) -> io::Result<()> {
-    let seed = k.seed;
-    let id = k.id;
-    let randomizer = k.randomizer;
-    let code = lms::sign(6, 3, seed, id, number, randomizer, text, nodes, out);
-    report::code(rt, name, what, code)
+    let code = lms::sign(6, 3, k.seed, k.id, number, k.randomizer, text, nodes, out);
+    println!(rt; "{name} {what}: {code}")
 }
 
 // What is refused: a number past the last, and buffers one byte short.
 fn refusals(
     rt: &impl Print,
-    name: &[u8],
+    name: &str,
     k: Secrets,
     number: u32,
     text: &[u8],
     nodes: &[u8],
 ) -> io::Result<()> {
     let mut place = [0u8; 2508];
-    let past = b" sign with number 1024: ";
+    let past = "sign with number 1024";
     sign(rt, name, past, k, 1024, text, nodes, &mut place)?;
     let cut = bytes::front(nodes, 65503);
-    let what = b" sign with a tree of 65503 bytes: ";
+    let what = "sign with a tree of 65503 bytes";
     sign(rt, name, what, k, number, text, cut, &mut place)?;
     let mut short = [0u8; 2507];
-    let into = b" sign into 2507 bytes: ";
+    let into = "sign into 2507 bytes";
     sign(rt, name, into, k, number, text, nodes, &mut short)?;
     short_key(rt, name, k, nodes)
 }
 
 // The same for the buffers of a key.
-fn short_key(rt: &impl Print, name: &[u8], k: Secrets, nodes: &[u8]) -> io::Result<()> {
-    let seed = k.seed;
-    let id = k.id;
+fn short_key(rt: &impl Print, name: &str, k: Secrets, nodes: &[u8]) -> io::Result<()> {
     let mut key = [0u8; 55];
-    let code = lms::public_key(6, 3, id, nodes, &mut key);
-    report::code(rt, name, b" public key into 55 bytes: ", code)?;
+    let code = lms::public_key(6, 3, k.id, nodes, &mut key);
+    println!(rt; "{name} public key into 55 bytes: {code}")?;
     let mut tree = [0u8; 65503];
-    let other = lms::generate(6, 3, seed, id, &mut tree);
-    report::code(rt, name, b" generate into 65503 bytes: ", other)
+    let other = lms::generate(6, 3, k.seed, k.id, &mut tree);
+    println!(rt; "{name} generate into 65503 bytes: {other}")
 }

@@ -3,24 +3,20 @@
 use crate::report;
 use lines::input;
 use sha256::bytes;
+use std::alloc::Global;
 use std::rt::Files;
-use std::{fs, io, str};
+use std::{fs, io};
 
-// Reads the file with a name and an ending, of at most 64 bytes together, to the start of text, and answers how many bytes it has. It says
-// why a file cannot be opened, which then counts as empty.
+// Reads the file with a name and an ending to the start of text, and answers how many bytes it has. It says why a file cannot be opened,
+// which then counts as empty.
 fn read(
-    rt: &(impl Files + Eprint),
-    name: &[u8],
-    ending: &[u8],
+    rt: &(impl Files + AllocGlobal + Eprint),
+    name: &str,
+    ending: &str,
     text: &mut [u8],
 ) -> io::Result<usize> {
-    let mut room = [0u8; 64];
-    bytes::put2(&mut room, 0, name, ending);
-    let Ok(path) = str::from_utf8(bytes::front(&room, name.len() + ending.len())) else {
-        eprintln!(rt; "a file's name is no text")?;
-        return Ok(0);
-    };
-    match fs::open(rt, path) {
+    let path = format!(in rt.alloc(); "{name}{ending}")?;
+    match fs::open(rt, path.as_str()) {
         Ok(mut file) => input::read_full(&mut file, text),
         Err(e) => {
             eprintln!(rt; "{path}: {e}")?;
@@ -30,57 +26,57 @@ fn read(
 }
 
 // The first line of a text, and what follows it.
-fn line(text: &[u8]) -> &[u8] {
-    bytes::front(text, lines::find(text, b'\n'))
+fn first_line(text: &[u8]) -> (&[u8], &[u8]) {
+    let end = lines::find(text, b'\n');
+    (
+        bytes::front(text, end),
+        bytes::from(bytes::from(text, end), 1),
+    )
 }
 
-fn after_line(text: &[u8]) -> &[u8] {
-    bytes::from(bytes::from(text, lines::find(text, b'\n')), 1)
+// The bytes that a line's digits stand for, `most` at most.
+fn decoded(alloc: Global, line: &[u8], most: usize) -> io::Result<Vec<u8>> {
+    let mut part = vec![in alloc; 0u8; most]?;
+    let n = lines::hex::decode(line, part.as_mut_slice());
+    part.truncate(n);
+    Ok(part)
 }
 
-// How many bytes the three lines of a file stand for.
-#[derive(Clone, Copy)]
-pub struct Lengths {
-    pub first: usize,
-    pub second: usize,
-    pub third: usize,
+// What the three lines of a file stand for.
+#[derive(Drop)]
+pub struct Parts {
+    pub first: Vec<u8>,
+    pub second: Vec<u8>,
+    pub third: Vec<u8>,
 }
 
-// Reads a file, and lays what each of its three lines stands for to the front of a buffer, as far as it has room.
+// Reads a file, of each line the bytes that there is room for.
 pub fn fields(
-    rt: &(impl Files + Eprint),
-    name: &[u8],
-    ending: &[u8],
-    first: &mut [u8],
-    second: &mut [u8],
-    third: &mut [u8],
-) -> io::Result<Lengths> {
+    rt: &(impl Files + AllocGlobal + Eprint),
+    name: &str,
+    ending: &str,
+    rooms: [usize; 3],
+) -> io::Result<Parts> {
     let mut text = [0u8; 8192];
     let n = read(rt, name, ending, &mut text)?;
-    let one = bytes::front(&text, n);
-    let two = after_line(one);
-    Ok(Lengths {
-        first: lines::hex::decode(line(one), first),
-        second: lines::hex::decode(line(two), second),
-        third: lines::hex::decode(line(after_line(two)), third),
+    let (one, rest) = first_line(bytes::front(&text, n));
+    let (two, rest) = first_line(rest);
+    let (three, _) = first_line(rest);
+    let alloc = rt.alloc();
+    Ok(Parts {
+        first: decoded(alloc, one, rooms[0])?,
+        second: decoded(alloc, two, rooms[1])?,
+        third: decoded(alloc, three, rooms[2])?,
     })
 }
 
+// Reads a record: its public key, its signature and its text.
+pub fn read_record(rt: &(impl Files + AllocGlobal + Eprint), name: &str) -> io::Result<Parts> {
+    fields(rt, name, ".txt", [56, 2508, 256])
+}
+
 // Checks a record's signature and prints the answer.
-pub fn check(rt: &(impl Files + Print + Eprint), name: &[u8]) -> io::Result<()> {
-    let mut key = [0u8; 56];
-    let mut signature = [0u8; 2508];
-    let mut message = [0u8; 256];
-    let n = fields(rt, name, b".txt", &mut key, &mut signature, &mut message)?;
-    report::answer(
-        rt,
-        name,
-        lms::check(
-            6,
-            3,
-            bytes::front(&key, n.first),
-            bytes::front(&message, n.third),
-            bytes::front(&signature, n.second),
-        ),
-    )
+pub fn check(rt: &(impl Files + AllocGlobal + Print + Eprint), name: &str) -> io::Result<()> {
+    let r = read_record(rt, name)?;
+    report::answer(rt, name, lms::check(6, 3, &r.first, &r.third, &r.second))
 }

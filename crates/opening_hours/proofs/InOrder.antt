@@ -1,12 +1,13 @@
 -- Windows in order: the one at a place of the list, the minutes before them, and the first closed minute.
 use mathlib.Core.Path.{◌≡◌, refl, sym, ap, ◌∙◌}
-use mathlib.Core.Bool.{true, false, cond, ◌&&◌, and-false, and-eq-true_iff, false≢true}
+use Rattle.std.specs.Bool.{◌==◌}
+use mathlib.Core.Bool.{true, false, cond, not, ◌&&◌, and-false, and-eq-true_iff, false≢true}
 use mathlib.Core.List.{List, [], ◌∷◌}
-use Prim.Native.Nat.{ℕ, suc, ◌+◌, ◌≤◌, ◌<◌}
+use Prim.Native.Nat.{ℕ, suc, ◌+◌, ◌-◌, ◌≤◌, ◌<◌}
 use native.Mathlib.Omega.{arith}
 use lib.Dec.{eqb, leb, ltb}
-use lib.ListN.{length, drop, get_or, drop_of_length-le}
-use lib.Seq.{drop-cons}
+use lib.ListN.{length, take, drop, get_or, drop_of_length-le, length-drop}
+use lib.Seq.{drop-cons, take_all}
 use borrow.Author.Tests.{lt-ltb, le-ltb, lt-leb, le-leb, eq-eqb, ne_eqb, eqb-true, eqb-false}
 use Rattle.sha256.proofs.Cases.{by_bool, cases_lt}
 use Rattle.opening_hours.specs.Opening.{week, in_windows, in_order, windows_fit}
@@ -23,6 +24,10 @@ two_at ws at h =
 -- where one number is left
 pub one_at : (ws : List ℕ) (at : ℕ) → at < length ws → length ws < at + 2 → drop at ws ≡ get_or ws at 0 ∷ []
 one_at ws at h l = drop-cons ws at 0 h ∙ ap (λ (r : List ℕ). get_or ws at 0 ∷ r) (drop_of_length-le ws {i = suc at} (omega arith))
+
+-- the list behind its first window
+pub behind-first : (ws : List ℕ) → take (length ws - 2) (drop 2 ws) ≡ drop 2 ws
+behind-first ws = take_all (length ws - 2) (drop 2 ws) (omega (arith, length-drop 2 ws))
 
 -- the window at a place
 module _ (ws : List ℕ) (at : ℕ) where
@@ -104,6 +109,18 @@ pub all_in_order : (ws : List ℕ) → length ws ≤ 64 → in_order 0 ws ≡ tr
 unfolding windows_fit
 all_in_order ws h e = rw (e, le-leb (length ws) 64 h) (by_bool (λ b. b ≡ b && true) (ltb 0 (length ws)) (λ _. refl) (λ _. refl))
 
+-- where the check has come to less than a window
+pub all-read : (ws rest : List ℕ) (after : ℕ) → length ws ≤ 64 → length rest < 2 → in_order 0 ws ≡ in_order after rest
+    → not (length ws == 0) && (length rest == 0) ≡ windows_fit ws
+unfolding in_order
+all-read ws [] after short h e = some ws ∙ all_in_order ws short e
+  where
+    some : (ws : List ℕ) → not (length ws == 0) && true ≡ ltb 0 (length ws)
+    some [] = refl
+    some (w ∷ ws) = rw (lt-ltb 0 (suc (length ws)) (omega arith), ne_eqb (suc (length ws)) 0 (λ q. omega arith)) refl
+all-read ws (x ∷ []) after short h e = and-false (not (length ws == 0)) ∙ not_in_order ws e
+all-read ws (x ∷ y ∷ rest) after short h e = absurd (omega arith)
+
 pub in_order_lem : (ws : List ℕ) → windows_fit ws ≡ true → in_order 0 ws ≡ true
 unfolding windows_fit
 in_order_lem ws e = ((and-eq-true_iff (leb (length ws) 64) _).0 ((and-eq-true_iff (ltb 0 (length ws)) _).0 e).1).1
@@ -173,6 +190,8 @@ module _ (ws : List ℕ) (at after : ℕ) (pair : at + 2 ≤ length ws) where
   unfolding first_closed
   run_ends n = rw (two_at ws at pair, ne_eqb (first ws at) after n)
 
-pub run-passed : (ws : List ℕ) (at after : ℕ) → length ws ≤ at → first_closed after (drop at ws) ≡ after
+pub run-passed : (rest : List ℕ) (after : ℕ) → length rest < 2 → first_closed after rest ≡ after
 unfolding first_closed
-run-passed ws at after h = rw (drop_of_length-le ws {i = at} h)
+run-passed [] after h = refl
+run-passed (x ∷ []) after h = refl
+run-passed (x ∷ y ∷ rest) after h = absurd (omega arith)

@@ -1,10 +1,10 @@
 -- The pass over the windows of a week, from a minute on.
-use mathlib.Core.Path.{◌≡◌, sym, ◌∙◌}
+use mathlib.Core.Path.{◌≡◌, refl, sym, ◌∙◌}
 use mathlib.Core.Bool.{true, false}
-use mathlib.Core.List.{List}
+use mathlib.Core.List.{List, [], ◌∷◌}
 use Prim.Native.Nat.{ℕ, ◌+◌, ◌-◌, ◌≤◌, ◌<◌}
 use native.Mathlib.Omega.{arith}
-use lib.ListN.{length, drop, drop_of_length-le}
+use lib.ListN.{length}
 use Rattle.sha256.proofs.Cases.{cases_lt}
 use Rattle.opening_hours.specs.Opening.{week, in_windows, in_order, windows_fit, is_open, open_for, earliest}
 use Rattle.opening_hours.specs.Inner.{first_closed}
@@ -12,10 +12,16 @@ use Rattle.opening_hours.proofs.InOrder.{first, end, later, WindowAt, window-at,
 use Rattle.opening_hours.proofs.InOrder.{FirstClosed, closed_is}
 use Rattle.opening_hours.proofs.Minutes.{open_in_week, open_week-later, stretch_open, one-closed, earliest-is, earliest-none}
 
--- How far the pass has come, at a place of the list: all minutes from `start` to `reach` are open, no start before `start` is left, and
--- from `reach` to the week's end the windows from that place on say which minutes are open.
-pub record Searched (ws : List ℕ) (minute minutes at start reach : ℕ) : Type 0 where
-  pub place : at ≤ length ws
+-- no window is left in a list of less than two numbers
+none-left : (rest : List ℕ) (t : ℕ) → length rest < 2 → in_windows rest t ≡ false
+unfolding in_windows
+none-left [] t h = refl
+none-left (x ∷ []) t h = refl
+none-left (x ∷ y ∷ rest) t h = absurd (omega arith)
+
+-- How far the pass has come, before the windows that are left: all minutes from `start` to `reach` are open, no start before `start` is left, and
+-- from `reach` to the week's end the windows that are left say which minutes are open.
+pub record Searched (ws : List ℕ) (minute minutes : ℕ) (rest : List ℕ) (start reach : ℕ) : Type 0 where
   pub from : minute ≤ start
   pub in_week : start < week
   pub order : start ≤ reach
@@ -24,14 +30,13 @@ pub record Searched (ws : List ℕ) (minute minutes at start reach : ℕ) : Type
   pub tried : (s : ℕ) → minute ≤ s → s < start → open_for ws minutes s ≡ false
   pub ended : ℕ
   pub behind : ended ≤ reach
-  pub sorted : in_order ended (drop at ws) ≡ true
-  pub left : (t : ℕ) → reach ≤ t → t < week → is_open ws t ≡ in_windows (drop at ws) t
+  pub sorted : in_order ended rest ≡ true
+  pub left : (t : ℕ) → reach ≤ t → t < week → is_open ws t ≡ in_windows rest t
 
 module _ (ws : List ℕ) (minute minutes : ℕ) where
-  pub begun : windows_fit ws ≡ true → minute < week → Searched ws minute minutes 0 minute minute
+  pub begun : windows_fit ws ≡ true → minute < week → Searched ws minute minutes ws minute minute
   begun fit h =
       record {
-        place = omega arith;
         from = omega arith;
         in_week = h;
         order = omega arith;
@@ -44,7 +49,7 @@ module _ (ws : List ℕ) (minute minutes : ℕ) where
         left = λ t a b. open_in_week ws t b;
       }
 
-  module _ (at start reach : ℕ) (s : Searched ws minute minutes at start reach) where
+  module _ (rest : List ℕ) (start reach : ℕ) (s : Searched ws minute minutes rest start reach) where
     -- No start up to a closed minute is left, where the stretch from `start` goes past `reach`, nor one up to a minute before which
     -- all from `reach` on are closed.
     none_through : (shut bound : ℕ) → reach ≤ shut → shut < start + minutes → is_open ws shut ≡ false
@@ -69,65 +74,63 @@ module _ (ws : List ℕ) (minute minutes : ℕ) where
     found h = starts_here (reach - start) h (λ t a b. s.opened t a (omega (arith, s.order)))
 
     -- one turn
-    module _ (more : at < length ws) where
-      pub window : WindowAt ws at s.ended
-      window = window-at ws at s.ended s.sorted more
+    module _ (more : 0 < length rest) where
+      pub window : WindowAt rest 0 s.ended
+      window = window-at rest 0 s.ended s.sorted more
 
-      step : (start' reach' : ℕ) → minute ≤ start' → start' < week → start' ≤ reach' → reach ≤ reach' → end ws at ≤ reach' → reach' ≤ week
+      step : (start' reach' : ℕ) → minute ≤ start' → start' < week → start' ≤ reach' → reach ≤ reach' → end rest 0 ≤ reach' → reach' ≤ week
           → ((t : ℕ) → start' ≤ t → t < reach' → is_open ws t ≡ true)
           → ((v : ℕ) → minute ≤ v → v < start' → open_for ws minutes v ≡ false)
-          → Searched ws minute minutes (at + 2) start' reach'
+          → Searched ws minute minutes (later rest 0) start' reach'
       step start' reach' from in_week order farther past_end within opened tried =
           record {
-            place = omega (arith, window.pair);
             from = from;
             in_week = in_week;
             order = order;
             within = within;
             opened = opened;
             tried = tried;
-            ended = end ws at;
+            ended = end rest 0;
             behind = past_end;
             sorted = window.rest;
-            left = λ t a b. s.left t (omega arith) b ∙ past ws at t window.pair (omega arith);
+            left = λ t a b. s.left t (omega arith) b ∙ past rest 0 t window.pair (omega arith);
           }
 
       -- a minute from `reach` on that lies in the window
-      in_window : (t : ℕ) → reach ≤ t → first ws at ≤ t → t < end ws at → is_open ws t ≡ true
-      in_window t a b c = s.left t a (omega (arith, window.within)) ∙ inside ws at t window.pair b c
+      in_window : (t : ℕ) → reach ≤ t → first rest 0 ≤ t → t < end rest 0 → is_open ws t ≡ true
+      in_window t a b c = s.left t a (omega (arith, window.within)) ∙ inside rest 0 t window.pair b c
 
       -- a minute between `reach` and the window
-      in_gap : (t : ℕ) → reach ≤ t → t < first ws at → is_open ws t ≡ false
-      in_gap t a b = s.left t a (omega (arith, window.some, window.within)) ∙ before_all (drop at ws) (first ws at) t sorted b
+      in_gap : (t : ℕ) → reach ≤ t → t < first rest 0 → is_open ws t ≡ false
+      in_gap t a b = s.left t a (omega (arith, window.some, window.within)) ∙ before_all rest (first rest 0) t sorted b
         where
-          sorted : in_order (first ws at) (drop at ws) ≡ true
-          sorted = order-goes-on ws at (first ws at) window.pair (omega arith) window.some window.within ∙ window.rest
+          sorted : in_order (first rest 0) rest ≡ true
+          sorted = order-goes-on rest 0 (first rest 0) window.pair (omega arith) window.some window.within ∙ window.rest
 
-      pub after_gap : reach - start < minutes → reach < first ws at → Searched ws minute minutes (at + 2) (first ws at) (end ws at)
+      pub after_gap : reach - start < minutes → reach < first rest 0 → Searched ws minute minutes (later rest 0) (first rest 0) (end rest 0)
       after_gap h g =
           let w = window in
           let o = s.order in
-          step (first ws at) (end ws at) (omega (arith, s.from)) (omega (arith, w.some, w.within)) (omega (arith, w.some))
+          step (first rest 0) (end rest 0) (omega (arith, s.from)) (omega (arith, w.some, w.within)) (omega (arith, w.some))
           (omega (arith, w.some)) (omega arith) w.within
           (λ t a b. in_window t (omega arith) a b)
-          (none_through reach (first ws at) (omega arith) (omega arith) (in_gap reach (omega arith) g) (λ t a b. in_gap t (omega arith) b))
+          (none_through reach (first rest 0) (omega arith) (omega arith) (in_gap reach (omega arith) g) (λ t a b. in_gap t (omega arith) b))
 
-      pub joined : first ws at ≤ reach → reach < end ws at → Searched ws minute minutes (at + 2) start (end ws at)
+      pub joined : first rest 0 ≤ reach → reach < end rest 0 → Searched ws minute minutes (later rest 0) start (end rest 0)
       joined h g =
           let w = window in
           let o = s.order in
-          step start (end ws at) s.from s.in_week (omega arith) (omega arith) (omega arith) w.within
+          step start (end rest 0) s.from s.in_week (omega arith) (omega arith) (omega arith) w.within
           (λ t a b. cases_lt t reach (λ l. s.opened t a l) (λ l. in_window t l (omega arith) b))
           s.tried
 
-      pub passed : end ws at ≤ reach → Searched ws minute minutes (at + 2) start reach
+      pub passed : end rest 0 ≤ reach → Searched ws minute minutes (later rest 0) start reach
       passed g = step start reach s.from s.in_week s.order (omega arith) g s.within s.opened s.tried
 
     -- after the last window
-    module _ (closed : ℕ) (fit : windows_fit ws ≡ true) (is : closed ≡ first_closed 0 ws) (some : closed < week) (last : length ws ≤ at) where
+    module _ (closed : ℕ) (fit : windows_fit ws ≡ true) (is : closed ≡ first_closed 0 ws) (some : closed < week) (last : length rest < 2) where
       shut_from : (t : ℕ) → reach ≤ t → t < week → is_open ws t ≡ false
-      unfolding in_windows
-      shut_from t a b = s.left t a b ∙ rw (drop_of_length-le ws {i = at} last)
+      shut_from t a b = s.left t a b ∙ none-left rest t last
 
       -- the first closed minute
       known : FirstClosed ws 0 closed

@@ -3,10 +3,11 @@ ghost use Rattle.std.specs.Prelude.{◌≡◌, true, ◌-◌, ◌<◌};
 ghost use Rattle.opening_hours.specs.Opening.{windows_fit, earliest, no_start, opening, schedule_opening};
 ghost use Rattle.opening_hours.specs.Inner.{first_closed};
 
-use super::windows;
+use super::windows::{self, WEEK};
 use firing::schedule;
 
 // What is answered: the code, and where it is 0 the start, in minutes from Monday 0:00 of the week in which the asked minute lies.
+// The code is a number beside a start, and no `Result`: C reads it.
 #[repr(C)]
 #[derive(Clone, Copy)]
 pub struct Start {
@@ -21,25 +22,24 @@ fn refused(code: u32) -> Start
     Start { code, start: 0 }
 }
 
-// The first minute of the week that lies in no window; 10,080 where the windows cover the week.
+// Of windows that fit, the first minute of the week that lies in none; 10,080 where they cover the week, and no Option: so the definition says.
 fn first_closed(hours: &[u32]) -> u32
-    requires { windows_fit hours.now ≡ true }
     ensures { result ≡ first_closed 0 hours.now }
 {
     let mut closed = 0;
-    let mut at = 0;
-    while at < hours.len() {
-        if hours[at] != closed {
+    let mut rest = hours;
+    while let &[first, end, ref later @ ..] = rest {
+        if first != closed {
             return closed;
         }
-        closed = hours[at + 1];
-        at += 2;
+        closed = end;
+        rest = later;
     }
     closed
 }
 
-// The earliest start from a minute to the week's last whose every minute lies in windows; 10,080 where there is none. `closed` is the
-// week's first minute in no window.
+// The earliest start from a minute to the week's last whose every minute lies in windows; 10,080 where there is none, a number and no
+// `None`, as the definition `earliest` has it. `closed` is the week's first minute in no window.
 //
 // One pass over the windows: no start before `start` is left to try, and all minutes from there to `reach` are open. A window that begins
 // after `reach` leaves a closed minute there, so that the next start to try is its first minute. A run that comes to the week's end
@@ -50,28 +50,24 @@ fn earliest_from(hours: &[u32], closed: u32, minute: u32, length: u32) -> u32
 {
     let mut start = minute;
     let mut reach = minute;
-    let mut at = 0;
-    while at < hours.len() {
+    let mut rest = hours;
+    while let &[first, end, ref later @ ..] = rest {
         if length <= reach - start {
             return start;
         }
-        let first = hours[at];
-        let end = hours[at + 1];
         if reach < first {
             start = first;
         }
-        if reach < end {
-            reach = end;
-        }
-        at += 2;
+        reach = reach.max(end);
+        rest = later;
     }
-    if reach == 10080 {
+    if reach == WEEK {
         reach += closed;
     }
     if length <= reach - start {
         return start;
     }
-    10080
+    WEEK
 }
 
 // The earliest start from a minute of the week on, within a week, whose every minute, counted round the week, lies in windows; 33 for a
@@ -80,21 +76,18 @@ fn earliest_from(hours: &[u32], closed: u32, minute: u32, length: u32) -> u32
 pub fn earliest(hours: &[u32], minute: u32, length: u32) -> Start
     ensures { result ≡ opening hours.now minute length }
 {
-    if 10080 <= minute {
-        return refused(33);
-    }
-    if !windows::fit(hours) {
+    if WEEK <= minute || !windows::fit(hours) {
         return refused(33);
     }
     let closed = first_closed(hours);
-    if closed == 10080 {
+    if closed == WEEK {
         return Start {
             code: 0,
             start: minute,
         };
     }
     let here = earliest_from(hours, closed, minute, length);
-    if here < 10080 {
+    if here < WEEK {
         return Start {
             code: 0,
             start: here,
@@ -104,7 +97,7 @@ pub fn earliest(hours: &[u32], minute: u32, length: u32) -> Start
     if next < minute {
         return Start {
             code: 0,
-            start: 10080 + next,
+            start: WEEK + next,
         };
     }
     refused(34)

@@ -2,32 +2,24 @@
 ghost use Rattle.std.specs.Prelude.{◌≡◌};
 ghost use Rattle.opening_hours.specs.Opening.{windows_fit};
 
+// How many minutes a week has.
+pub const WEEK: u32 = 10080;
+
 // Whether there are 1 to 32 windows, none of them empty or past the week's end, and each begins where the one before ends or after that.
 pub fn fit(windows: &[u32]) -> bool
     ensures { result ≡ windows_fit windows.now }
 {
-    let count = windows.len();
-    if 64 < count {
+    if 64 < windows.len() {
         return false;
     }
-    let mut at = 0;
-    let mut end = 0;
-    while at < count {
-        if count < at + 2 {
+    let mut after = 0;
+    let mut rest = windows;
+    while let &[first, end, ref later @ ..] = rest {
+        if first < after || end <= first || WEEK < end {
             return false;
         }
-        let first = windows[at];
-        if first < end {
-            return false;
-        }
-        end = windows[at + 1];
-        if end <= first {
-            return false;
-        }
-        if 10080 < end {
-            return false;
-        }
-        at += 2;
+        after = end;
+        rest = later;
     }
-    0 < count
+    !windows.is_empty() & rest.is_empty()
 }

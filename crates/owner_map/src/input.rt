@@ -3,7 +3,6 @@ ghost use Rattle.std.specs.Prelude.{◌≡◌};
 ghost use Rattle.owner_map.specs.Input.{in_range, asked};
 
 use lines::{read_digits, skip_blanks};
-use tree::bools::{at_most, both};
 
 // A table for a count of servers up to a last position, or nothing that can be printed.
 #[derive(Clone, Copy)]
@@ -19,9 +18,10 @@ pub fn parse(text: &[u8]) -> Asked
     let first = read_digits(text, skip_blanks(text, 0));
     let second = read_digits(text, skip_blanks(text, first.next));
     let end = skip_blanks(text, second.next);
-    let numbers = both(both(first.found, second.found), at_most(text.len(), end));
-    let read = both(at_most(text.len(), 4096), numbers);
-    if both(read, in_range(first.value, second.value)) {
+    let numbers = first.found & second.found & (text.len() <= end);
+    let fits = in_range(first.value, second.value);
+    let wanted = (text.len() <= 4096) & numbers & fits;
+    if wanted {
         return Asked::Table((first.value % 256) as u8, second.value);
     }
     Asked::Refused

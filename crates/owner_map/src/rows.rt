@@ -33,7 +33,7 @@ pub fn fill(out: &mut [u8], n: u8, done: u32, last: u32) -> Piece
             };
         }
         p += 1;
-        at = append_row(out, at, &labels, n, p);
+        at = append_row(out, at, labels, n, p);
     }
     Piece {
         length: at,

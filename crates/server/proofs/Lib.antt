@@ -2,6 +2,7 @@
 pub mod Asked
 pub mod Judged
 pub mod Codes
+pub mod Numbered
 pub mod Effects
 pub mod Served
 -- What holds of every call, and of one call after another.

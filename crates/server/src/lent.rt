@@ -6,7 +6,8 @@ ghost use Rattle.server.specs.Inner.{ServesLent};
 use super::Head;
 use tree::setup::Config;
 
-// What a call on a lent head gives: its code, the store's used length after it, and the length of the answer, 0 where none is written.
+// What a call on a lent head gives: its code, a number as in `Out`, the store's used length after it, and the length of the answer, 0 where
+// none is written.
 #[derive(Clone, Copy)]
 pub struct Reply {
     pub code: u8,

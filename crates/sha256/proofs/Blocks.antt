@@ -1,5 +1,6 @@
 -- How the hash value moves on by whole blocks, and what is left after them.
-use Rattle.std.proofs.Common.{◌≡◌, ℕ, zero, suc, ◌+◌, ◌-◌, ◌*◌, ◌/◌, ◌%◌, ◌<◌, ◌≤◌, List, [], ◌∷◌, ◌++◌, length, drop, set, replicate, sym, refl, ap, ◌∙◌, arith, length-append, length-drop, drop_of_length-le, take_at}
+use Rattle.std.proofs.Common.{◌≡◌, ℕ, zero, suc, ◌+◌, ◌-◌, ◌*◌, ◌/◌, ◌%◌, ◌<◌, ◌≤◌, List, [], ◌∷◌, ◌++◌, length, get_or, take, drop, set, replicate, sym, refl, ap, ◌∙◌, arith, length-append, length-drop, drop_of_length-le, take-append-drop, length-take-le, drop-drop, take_at}
+use Rattle.std.specs.Simd.{first_chunks}
 use native.Mathlib.Nat.{sub-zero, zero-sub, suc-sub-suc}
 use lib.ListN.{length-replicate, get_or-append}
 use lib.Seq.{drop-append-le, drop-append-add, set_at}
@@ -45,6 +46,18 @@ next-whole-block m s state next i hm hi es en =
     let q : (length m + (i + 64)) / 64 ≡ suc ((length m + i) / 64) = omega arith in
     let at : 64 * ((length m + i) / 64) ≡ length m + i = omega arith in
     rw (q, at, drop-append-add m s i, ← es) en
+
+-- block i of the whole blocks of s, as the loop over them reads it
+pub words-in_chunk : (k i : ℕ) (s : List ℕ) → i < k → 64 * k ≤ length s
+    → words 16 (get_or (first_chunks 64 k s) i []) ≡ words 16 (drop (64 * i) s)
+words-in_chunk zero i s h g = absurd (omega arith)
+words-in_chunk (suc k) zero s h g =
+    let front : length (take 64 s) ≡ 64 = length-take-le 64 s (omega arith) in
+    sym (words_append 16 (take 64 s) (drop 64 s) (omega arith)) ∙ ap (words 16) (take-append-drop 64 s)
+words-in_chunk (suc k) (suc i) s h g =
+    let at : 64 + 64 * i ≡ 64 * suc i = omega arith in
+    words-in_chunk k i (drop 64 s) (omega arith) (simp length-drop (omega arith))
+    ∙ ap (words 16) (drop-drop (64 * i) 64 s ∙ ap (λ (j : ℕ). drop j s) at)
 
 pub rest-length : (m : List ℕ) → length (rest m) ≡ length m % 64
 unfolding rest

@@ -1,5 +1,5 @@
 -- What the crates above know of big-endian numbers and of writing into a buffer.
-use Rattle.std.proofs.Common.{◌≡◌, ℕ, zero, suc, ◌+◌, ◌*◌, ◌/◌, ◌%◌, ◌^◌, ◌<◌, ◌≤◌, true, false, ◌&&◌, eqb, List, [], ◌∷◌, ◌++◌, length, get_or, take, drop, sym, refl, ap, ◌∙◌, ap₂, append_assoc, append-nil, mod-lt, mod-eq_of_lt, mul_comm, pow-suc, arith, length-append, length-drop, drop_of_length-le, length-take-le, drop-drop, take_at, eq-eqb, eqb-true, le-leb}
+use Rattle.std.proofs.Common.{◌≡◌, ℕ, zero, suc, ◌+◌, ◌*◌, ◌/◌, ◌%◌, ◌^◌, ◌<◌, ◌≤◌, true, ◌&&◌, eqb, List, [], ◌∷◌, ◌++◌, length, get_or, take, drop, sym, refl, ap, ◌∙◌, ap₂, append_assoc, append-nil, mod-lt, mod-eq_of_lt, mul_comm, pow-suc, arith, length-append, length-drop, drop_of_length-le, length-take-le, drop-drop, take_at, eq-eqb, eqb-true, le-leb}
 use mathlib.Core.Bool.{false≢true}
 use native.Mathlib.Nat.{mod-one}
 use lib.Arith.{mod-mul, digits_div, digits_mod}
@@ -132,7 +132,3 @@ pub eqs_refl : (s : List ℕ) → eqs s s ≡ true
 unfolding eqs
 eqs_refl [] = refl
 eqs_refl (x ∷ xs) = rw (eq-eqb x x refl) (eqs_refl xs)
-
--- two lists that differ at a place, or in length, are not the same
-pub eqs-false : (s t : List ℕ) → (s ≡ t → ⊥) → eqs s t ≡ false
-eqs-false s t n = by_bool (λ b. eqs s t ≡ b → eqs s t ≡ false) (eqs s t) (λ e r. absurd (n (eqs-true s t r))) (λ e r. r) refl

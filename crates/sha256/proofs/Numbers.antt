@@ -1,8 +1,8 @@
 -- Big-endian numbers of two, four and eight bytes, written out as the functions compute them.
-use Rattle.std.proofs.Common.{◌≡◌, ℕ, suc, ◌+◌, ◌-◌, ◌*◌, ◌/◌, ◌%◌, ◌<◌, ◌≤◌, true, List, [], ◌∷◌, ◌++◌, length, get_or, take, drop, set, sym, ap, ◌∙◌, add-zero, div-one, add-one, arith, length-drop, drop_of_length-le, get_or-drop, take_all, take-suc}
-use lib.Seq.{take-length, drop-length, paste, paste-suc}
-use Rattle.sha256.specs.Bytes.{be, number_at, written, eqs}
-use Rattle.sha256.proofs.Laws.{written-fits, eqs_refl}
+use Rattle.std.proofs.Common.{◌≡◌, ℕ, suc, ◌+◌, ◌-◌, ◌*◌, ◌/◌, ◌%◌, ◌<◌, ◌≤◌, List, [], ◌∷◌, ◌++◌, length, get_or, take, drop, sym, ap, ◌∙◌, add-zero, div-one, add-one, arith, length-drop, drop_of_length-le, get_or-drop, take_all}
+use lib.Seq.{take-length, drop-length, paste}
+use Rattle.sha256.specs.Bytes.{be, number_at, written}
+use Rattle.sha256.proofs.Laws.{written-fits}
 
 pub be-two : (x : ℕ) → be 2 x ≡ x / 256 % 256 ∷ x % 256 ∷ []
 unfolding be
@@ -49,18 +49,3 @@ pub number_four_from : (s : List ℕ) (i : ℕ)
     → get_or (drop i s) 0 0 * 16777216 + get_or (drop i s) 1 0 * 65536 + get_or (drop i s) 2 0 * 256 + get_or (drop i s) 3 0 ≡ number_at 4 s i
 number_four_from s i =
     rw (get_or-drop i s 0 0, get_or-drop i s 1 0, get_or-drop i s 2 0, get_or-drop i s 3 0, add-zero) (sym (number_four s i))
-
--- one turn of the copying loop
-pub copy_more : (d e : List ℕ) (at : ℕ) (s : List ℕ) (j : ℕ) → at + j < length d → j < length s → e ≡ paste d at s j
-    → set e (at + j) (get_or s j 0) ≡ paste d at s (j + 1)
-copy_more d e at s j h g p = rw (p, add-one) (paste-suc d at s j 0 h g)
-
--- one turn of the comparing loop, and its end
-pub same_more : (a b : List ℕ) (i : ℕ) → i < length a → i < length b → take i a ≡ take i b → get_or a i 0 ≡ get_or b i 0
-    → take (i + 1) a ≡ take (i + 1) b
-same_more a b i ha hb e g = rw (add-one, take-suc a i 0 ha, take-suc b i 0 hb, e, g)
-
-pub all_same : (a b : List ℕ) (i : ℕ) → length a ≡ i → length b ≡ i → take i a ≡ take i b → true ≡ eqs a b
-all_same a b i ea eb e =
-    let h : a ≡ b = sym (take_all i a (omega arith)) ∙ e ∙ take_all i b (omega arith) in
-    rw h (sym (eqs_refl b))

@@ -1,5 +1,5 @@
 -- A message that comes in parts: what the streaming state holds after each, and the hash at the end.
-use Rattle.std.proofs.Common.{◌≡◌, ℕ, zero, suc, ◌+◌, ◌-◌, ◌*◌, ◌/◌, ◌%◌, ◌^◌, ◌<◌, ◌≤◌, cond, ltb, List, [], ◌∷◌, ◌++◌, length, take, drop, set, replicate, sym, refl, ap, ◌∙◌, append_assoc, append-nil, arith, length-append, take-append-drop, length-take-le, take_at, le-ltb, lt-ltb}
+use Rattle.std.proofs.Common.{◌≡◌, ℕ, suc, ◌+◌, ◌-◌, ◌*◌, ◌/◌, ◌%◌, ◌^◌, ◌<◌, ◌≤◌, List, [], ◌∷◌, ◌++◌, length, take, drop, set, replicate, sym, refl, ap, ◌∙◌, append_assoc, append-nil, arith, length-append, take-append-drop, length-take-le, take_at}
 use lib.ListN.{length-replicate, replicate-append-replicate}
 use Rattle.sha256.specs.Bytes.{be, written}
 use Rattle.sha256.specs.Constants.{H0}
@@ -8,7 +8,6 @@ use Rattle.sha256.specs.Hash.{zeros, padding, pad, words, hash_value, bytes, sha
 use Rattle.sha256.specs.Inner.{rest, streamed}
 use Rattle.sha256.specs.declared.stream.Sha.{Sha}
 use Rattle.sha256.proofs.Laws.{be-length, be-mod}
-use Rattle.sha256.proofs.Cases.{cases_lt}
 use Rattle.sha256.proofs.Numbers.{rest-is}
 use Rattle.sha256.proofs.Blocks.{hash_value-append, next-block, rest-length, rest_more, rest-after, rest-none, written-over-zeros, set-first-zero}
 
@@ -103,9 +102,9 @@ rest-kept sh m e =
     rw (block-is sh m e, fill_is sh m e) (take_at (rest m) (replicate (64 - length m % 64) 0) (length m % 64) (rest-length m))
 
 -- the length in bits, from a count of bytes modulo 2^64
-pub bits_are : (total : ℕ) (m : List ℕ) → total ≡ length m % 2 ^ 64 → be 8 (total % 2305843009213693952 * 8) ≡ be 8 (8 * length m)
+pub bits_are : (total : ℕ) (m : List ℕ) → total ≡ length m % 2 ^ 64 → be 8 (total * 8 % 2 ^ 64) ≡ be 8 (8 * length m)
 bits_are total m t =
-    let w : total % 2305843009213693952 * 8 ≡ 8 * length m % 256 ^ 8 = omega arith in
+    let w : total * 8 % 2 ^ 64 ≡ 8 * length m % 256 ^ 8 = omega arith in
     ap (be 8) w ∙ be-mod 8 (8 * length m)
 
 -- the rest of m in a block of zeros, with the padding's first byte behind it
@@ -190,49 +189,3 @@ pub value_of_slice : (s h : List ℕ) → h ≡ hash_value ((0 + length s) / 64)
 value_of_slice s h e =
     let n : 0 + length s ≡ length s = omega arith in
     rw n at e
-
--- What the loop through the last blocks of m still has to do: nothing; the block with the length; one block, and then that one.
-abbrev pub Pending : List ℕ → List ℕ → ℕ → List ℕ → List ℕ → Type 0
-Pending m bits zero h block = bytes h ≡ sha256 m
-Pending m bits (suc zero) h block = (fin : List ℕ) → fin ≡ compress h (words 16 (written block 56 bits)) → bytes fin ≡ sha256 m
-Pending m bits (suc (suc n)) h block =
-    (next : List ℕ) → next ≡ compress h (words 16 block) → Pending m bits (suc n) next (replicate 64 0)
-
-module _ (m state marked : List ℕ) (es : state ≡ hash_value (length m / 64) m) (em : marked ≡ rest m ++ (128 ∷ replicate (63 - length m % 64) 0))
-    (bits : List ℕ) (digits : bits ≡ be 8 (8 * length m)) where
-  pub pending_first : (at left : ℕ) → at ≡ length m % 64 → left ≡ cond (ltb at 56) 1 2 → Pending m bits left state marked
-  pending_first at left ea el =
-      cases_lt at 56
-      (λ h.
-      let one : left ≡ 1 = el ∙ rw (lt-ltb at 56 h) in
-      rw one (λ fin ef. finished_here m state marked es em bits digits fin (bytes fin) refl (written marked 56 bits) (omega arith) refl ef))
-      (λ h.
-      let two : left ≡ 2 = el ∙ rw (le-ltb at 56 h) in
-      rw two (λ next en fin ef. finished_next m state marked es em bits digits fin (bytes fin) refl next (written (replicate 64 0) 56 bits) (omega arith) en refl ef))
-
--- one turn: the block with the length, or the one before it
-pub pending_last : (m bits h block last next : List ℕ) (left : ℕ) → Pending m bits left h block → left ≡ 1 → last ≡ written block 56 bits
-    → next ≡ compress h (words 16 last) → Pending m bits (left - 1) next (replicate 64 0)
-pending_last m bits h block last next left p e el en =
-    let q : Pending m bits 1 h block = rw e at p in
-    rw e (q next (en ∙ rw el))
-
-pub pending_more : (m bits h block next : List ℕ) (left : ℕ) → Pending m bits left h block → left ≡ 2 → next ≡ compress h (words 16 block)
-    → Pending m bits (left - 1) next (replicate 64 0)
-pending_more m bits h block next left p e en =
-    let q : Pending m bits 2 h block = rw e at p in
-    rw e (q next en)
-
-pub pending_none : (m bits h block : List ℕ) (left : ℕ) → Pending m bits left h block → left ≡ 0 → bytes h ≡ sha256 m
-pending_none m bits h block left p e = rw e at p
-
-pub at_most_two : (at left : ℕ) → left ≡ cond (ltb at 56) 1 2 → left ≤ 2
-at_most_two at left e =
-    cases_lt at 56
-    (λ h. let one : left ≡ 1 = e ∙ rw (lt-ltb at 56 h) in omega arith)
-    (λ h. let two : left ≡ 2 = e ∙ rw (le-ltb at 56 h) in omega arith)
-
-pub two-left : (n : ℕ) → n ≤ 2 → 0 < n → (n ≡ 1 → ⊥) → n ≡ 2
-two-left zero h g k = absurd (omega arith)
-two-left (suc zero) h g k = absurd (k refl)
-two-left (suc (suc n)) h g k = omega arith

@@ -3,7 +3,7 @@ use Rattle.std.proofs.Common.{◌≡◌, ℕ, zero, suc, ◌+◌, ◌-◌, ◌*�
 use lib.ListN.{get_or-append}
 use lib.Seq.{drop-append-le}
 use Rattle.sha256.specs.Constants.{K}
-use Rattle.sha256.specs.Block.{T1, T2, next_w, schedule, round, rounds, sums, compress}
+use Rattle.sha256.specs.Block.{next_w, schedule, round, rounds, sums, compress}
 use Rattle.sha256.specs.Inner.{shifted, shifted_by, rounds_from}
 use Rattle.sha256.specs.Word.{σ0, σ1}
 
@@ -100,12 +100,6 @@ pub slid : (w : List ℕ) {x y z : ℕ} → y ≡ σ1 (get_or w 14 0) → z ≡ 
     → x ≡ (y + get_or w 9 0 + z + get_or w 0 0) % 2 ^ 32 → elements w 1 15 ++ (x ∷ []) ≡ shifted w
 unfolding shifted
 slid w p q r = cc
-
-pub rounded : (k w : ℕ) (v : List ℕ) {a e x y : ℕ} → x ≡ T1 k w (get_or v 4 0) (get_or v 5 0) (get_or v 6 0) (get_or v 7 0)
-    → y ≡ T2 (get_or v 0 0) (get_or v 1 0) (get_or v 2 0) → a ≡ (x + y) % 2 ^ 32 → e ≡ (get_or v 3 0 + x) % 2 ^ 32
-    → a ∷ get_or v 0 0 ∷ get_or v 1 0 ∷ get_or v 2 0 ∷ e ∷ get_or v 4 0 ∷ get_or v 5 0 ∷ get_or v 6 0 ∷ [] ≡ round k w v
-unfolding round
-rounded k w v p q r s = cc
 
 pub no_round : (k : List ℕ) (t : ℕ) (w v : List ℕ) → v ≡ rounds_from 0 k t w v
 unfolding rounds_from

@@ -26,11 +26,13 @@ impl Sha {
     pub fn update(self, more: &[u8]) -> Sha
         ensures { (m : List ℕ) → self ≡ streamed m → result ≡ streamed (m ++ more.now) }
     {
-        let state = self.state;
-        let mut block = self.block;
-        let total = self.total;
+        let Sha {
+            state,
+            mut block,
+            total,
+        } = self;
         let at = (total % 64) as usize;
-        let count = std::num::wrapping_add_u64(total, more.len() as u64);
+        let count = total.wrapping_add(more.len() as u64);
         if more.len() < 64 - at {
             bytes::put(&mut block, at, more);
             return Sha {
@@ -41,7 +43,7 @@ impl Sha {
         }
         let k = 64 - at;
         bytes::put(&mut block, at, &more[..k]);
-        let next = block::compress(state, block::words_at(&block, 0));
+        let next = block::compress(state, block::words_of(&block));
         absorb(next, &more[k..], count)
     }
 
@@ -49,9 +51,11 @@ impl Sha {
     pub fn finish(self) -> [u8; 32]
         ensures { (m : List ℕ) → self ≡ streamed m → result ≡ sha256 m }
     {
-        let state = self.state;
-        let block = self.block;
-        let total = self.total;
+        let Sha {
+            state,
+            block,
+            total,
+        } = self;
         let at = (total % 64) as usize;
         value::close(state, bytes::front(&block, at), total)
     }
@@ -88,11 +92,8 @@ pub fn digest(h: [u32; 8]) -> [u8; 32]
     ensures { result ≡ bytes_of h }
 {
     let mut out = [0u8; 32];
-    let mut i = 0;
-    while i < 8 {
-        let word = bytes::be4(h[i]);
-        bytes::put(&mut out, 4 * i, &word);
-        i += 1;
+    for (i, word) in h.iter().enumerate() {
+        bytes::put(&mut out, 4 * i, &bytes::be4(*word));
     }
     out
 }

@@ -11,11 +11,10 @@ pub fn whole_blocks(h: [u32; 8], s: &[u8]) -> [u32; 8]
         → result ≡ hash_value ((length m + length s.now) / 64) (m ++ s.now) }
 {
     let mut state = h;
-    let mut i = 0;
-    while 64 <= s.len() - i {
-        let next = block::compress(state, block::words_at(s, i));
+    let (blocks, _) = s.as_chunks::<64>();
+    for block in blocks {
+        let next = block::compress(state, block::words_of(block));
         state = next;
-        i += 64;
     }
     state
 }
@@ -27,30 +26,17 @@ pub fn close(state: [u32; 8], rest: &[u8], total: u64) -> [u8; 32]
         → total ≡ length m % 2 ^ 64 → result ≡ sha256 m }
 {
     let at = rest.len();
-    let bits = bytes::be8(total % 2305843009213693952 * 8);
     let mut block = [0u8; 64];
     bytes::put(&mut block, 0, rest);
-    block[at] = 128;
+    block[at] = 0x80;
     let mut h = state;
-    let mut left = blocks_left(at);
-    while 0 < left {
-        if left == 1 {
-            bytes::put(&mut block, 56, &bits);
-        }
-        let next = block::compress(h, block::words_at(&block, 0));
+    // Where the length's eight bytes do not fit behind the first byte of padding, they stand in a block of their own.
+    let full = 56 <= at;
+    if full {
+        let next = block::compress(h, block::words_of(&block));
         h = next;
         block = [0u8; 64];
-        left -= 1;
     }
-    stream::digest(h)
-}
-
-// The blocks that a rest of `at` bytes and the padding take: one where the eight bytes of the length fit behind the first byte of padding.
-fn blocks_left(at: usize) -> usize
-    ensures { result ≡ (if nat_lt at 56 then 1 else 2) }
-{
-    if at < 56 {
-        return 1;
-    }
-    2
+    bytes::put(&mut block, 56, &bytes::be8(total.wrapping_mul(8)));
+    stream::digest(block::compress(h, block::words_of(&block)))
 }

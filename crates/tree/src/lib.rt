@@ -2,7 +2,6 @@
 // share. The bytes are passed on to the crates above.
 #![tactic(auto)]
 
-pub mod bools;
 pub mod cover;
 pub mod digest;
 pub mod first_labels;

@@ -2,12 +2,12 @@
 use mathlib.Core.Path.{◌≡◌, refl, sym}
 use mathlib.Core.Bool.{true}
 use mathlib.Core.List.{List}
-use Prim.Native.Nat.{ℕ, ◌-◌, ◌*◌, ◌/◌, ◌%◌, ◌≤◌}
+use Prim.Native.Nat.{ℕ, ◌*◌, ◌/◌, ◌%◌, ◌≤◌}
 use native.Mathlib.Omega.{arith}
 use lib.Dec.{eqb, leb}
-use lib.ListN.{length, take}
+use lib.ListN.{length}
 use borrow.Author.Tests.{leb-true, le-leb, lt-leb}
-use Rattle.user_list.specs.Users.{user_count, user_key, is_listed, list_fits, group_fits, signature_length, tree_length, signature_count}
+use Rattle.user_list.specs.Users.{user_count, is_listed, list_fits, group_fits, signature_length, tree_length, signature_count}
 use Rattle.user_list.specs.Users.{longest_signature, longest_tree}
 use Rattle.lms.specs.Tree.{tree_size}
 use Rattle.lms.specs.Signature.{signature_size}
@@ -34,11 +34,6 @@ unfolding is_listed
 listed users a e =
     let x = and-true (leb 1 a) _ e in
     (leb-true 1 a x.0, leb-true a (user_count users) x.1)
-
--- what is read as the key of user 0
-pub key-none : (users : List ℕ) (a : ℕ) → a ≡ 0 → take 56 users ≡ user_key users a
-unfolding user_key
-key-none users a z = let e : 56 * (a - 1) ≡ 0 = omega arith in rw e
 
 -- a listed number, by the length that the keys up to it take
 pub listed_by_length : (n a : ℕ) → leb (56 * a) n ≡ leb a (n / 56)

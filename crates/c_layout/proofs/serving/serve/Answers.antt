@@ -1,31 +1,14 @@
-use Rattle.c_layout.proofs.Heads.{called, answer-small, left-refused, left-taken}
+use Rattle.std.proofs.Common.{rules, arith}
+use Rattle.c_layout.proofs.Heads.{called, answer-small, head-left}
 use Rattle.c_layout.proofs.serving.serve.Goals as goal
+use Rattle.c_layout.proofs.serving.serve.Goals.{then-reply-eq0, else-reply-eq0}
 
-pub result-requires : goal.result-requires
-result-requires c =
-    let head_of = c.head_of-before.ensures in
-    let config = c.config-config.ensures in
-    let on-head = c.on_head-out.ensures in
-    answer-small (called config head_of on-head)
-
-pub returns-then-out-ne0 : goal.returns-then-out-ne0
-returns-then-out-ne0 c =
-    let head_of = c.head_of-before.ensures in
-    let config = c.config-config.ensures in
-    let on-head = c.on_head-out.ensures in
-    left-refused (called config head_of on-head) c.if-out-ne0.true c.result.ensures
-
-pub result-requires-2 : goal.result-requires-2
-result-requires-2 c =
-    let head_of = c.head_of-before.ensures in
-    let config = c.config-config.ensures in
-    let on-head = c.on_head-out.ensures in
-    answer-small (called config head_of on-head)
+pub overflow_cast-result-2 : goal.overflow_cast-result-2
+overflow_cast-result-2 c =
+    let small = answer-small (called c.config-config.ensures c.head_of-h.ensures c.serve_lent-reply.ensures) in
+    omega (arith, small)
 
 pub returns : goal.returns
 returns c =
-    let head_of = c.head_of-before.ensures in
-    let config = c.config-config.ensures in
-    let on-head = c.on_head-out.ensures in
-    let if1-left = c.if-out-ne0.false in
-    left-taken (called config head_of on-head) if1-left c.head_bytes-after.ensures c.result-2.ensures
+    head-left (called c.config-config.ensures c.head_of-h.ensures c.serve_lent-reply.ensures) _
+    (elim c.if-reply-eq0.branch [ then-reply-eq0 w ↦ search rules | else-reply-eq0 w ↦ search rules ])

@@ -7,5 +7,5 @@ returns c =
     let kept_of = c.kept_of.ensures in
     let the-start = c.start-left.ensures in
     let lay-kept = c.lay_kept.ensures in
-    give_up_begun_lem _ _ _ _ _ the-config _ _ kept_of _ _ _ _ _ _ _ _ the-start lay-kept c.lay_give_up.ensures
-    c.plain_result.ensures
+    give_up_begun_lem _ _ _ _ _ the-config _ _ kept_of _ _ _ _ _ _ _ _ the-start lay-kept c.lay.ensures
+    c.without_entry.ensures

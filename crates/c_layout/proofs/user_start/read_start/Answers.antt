@@ -6,4 +6,4 @@ returns c =
     let the-config = c.config.ensures in
     let kept_of = c.kept_of.ensures in
     let the-start = c.start-left.ensures in
-    read-begun _ _ _ _ _ the-config _ _ kept_of _ _ _ _ _ _ _ _ the-start c.lay_read.ensures c.result.ensures
+    read-begun _ _ _ _ _ the-config _ _ kept_of _ _ _ _ _ _ _ _ the-start c.lay.ensures c.of.ensures

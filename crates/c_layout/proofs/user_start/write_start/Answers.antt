@@ -6,5 +6,5 @@ returns c =
     let the-config = c.config.ensures in
     let kept_of = c.kept_of.ensures in
     let the-start = c.start-left.ensures in
-    write-begun _ _ _ _ _ the-config _ _ kept_of _ _ _ _ _ _ _ _ _ _ _ _ the-start c.lay_write.ensures
-    c.plain_result.ensures
+    write-begun _ _ _ _ _ the-config _ _ kept_of _ _ _ _ _ _ _ _ _ _ _ _ the-start c.lay.ensures
+    c.without_entry.ensures

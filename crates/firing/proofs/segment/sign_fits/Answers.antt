@@ -2,11 +2,8 @@ use mathlib.Core.Path.{◌∙◌}
 use mir.Facts.{to_z-of_z}
 use mir.Syntax.{w16, w32}
 use Rattle.firing.specs.Schedule.{sign_fits}
-use Rattle.firing.proofs.Signed.{widens, widened}
+use Rattle.firing.proofs.Signed.{widened}
 use Rattle.firing.proofs.segment.sign_fits.Goals as goal
-
-pub overflow_cast-s : goal.overflow_cast-s
-overflow_cast-s c = widens w16 w32 c.args.s.rate tt (record { sfits = c.struct_told-1.given.0.1 })
 
 pub returns : goal.returns
 unfolding sign_fits

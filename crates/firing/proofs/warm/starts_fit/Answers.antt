@@ -1,23 +1,13 @@
-use mathlib.Core.Path.{sym, ◌∙◌}
-use native.Mathlib.Omega.{arith}
-use Rattle.firing.proofs.Starts.{ends_crossed, end_high, start_breaks, upper-end_decides}
+use Rattle.firing.proofs.Starts.{ends_crossed, end_high, both_decide}
 use Rattle.firing.proofs.warm.starts_fit.Goals as goal
+use Rattle.firing.proofs.warm.starts_fit.Goals.{then-to-from-via-then-to-from, then-to-from-via-else-to-from+then-to-gt1350}
 
 pub returns-then-to-from : goal.returns-then-to-from
-returns-then-to-from c = ends_crossed _ _ _ c.if-to-from.true
-
-pub returns-then-to-gt1350 : goal.returns-then-to-gt1350
-returns-then-to-gt1350 c = end_high _ _ _ c.if-to-from.false c.if-to-gt1350.true
-
-pub returns-then-not-sign_fits : goal.returns-then-not-sign_fits
-returns-then-not-sign_fits c =
-    let order = c.if-to-from.false in
-    let breaks = sym c.sign_fits.ensures ∙ c.if-not-sign_fits.true in
-    start_breaks _ _ _ order c.if-to-gt1350.false _ (omega arith) order breaks
+returns-then-to-from c =
+    elim c.then-to-from.branch [
+      | then-to-from-via-then-to-from w ↦ ends_crossed _ _ _ w.if-to-from.true
+      | then-to-from-via-else-to-from+then-to-gt1350 w ↦ end_high _ _ _ w.if-to-from.false w.if-to-gt1350.true
+    ]
 
 pub returns : goal.returns
-returns c =
-    let order = c.if-to-from.false in
-    let low = c.if-to-gt1350.false in
-    let lower = sym c.sign_fits.ensures ∙ c.if-not-sign_fits.false in
-    c.sign_fits-2.ensures ∙ upper-end_decides _ _ _ order low lower
+returns c = rw (c.sign_fits.ensures, c.sign_fits-2.ensures) (both_decide _ _ _ c.if-to-from.false c.if-to-gt1350.false)

@@ -1,15 +1,9 @@
 use Rattle.kozbrax.specs.Tree.{nodes_bytes}
 use Rattle.tree.specs.Cover.{cover}
 use Rattle.sha256.specs.Bytes.{written}
-use lib.ListN.{length, take}
-use Prim.Native.Nat.{◌≤◌, ◌-◌}
+use lib.ListN.{take}
 use mathlib.Core.Path.{◌≡◌}
 use Rattle.kozbrax.proofs.cover.write_nodes.Given as goal
 
 abbrev pub invariant-loop-k : goal.invariant-loop-k
-invariant-loop-k l =
-    (l.k ≤ length (cover l.v l.w)) ×
-    ((length l.nodes ≡ length l.initial.nodes) × (l.nodes ≡ written l.initial.nodes 0 (nodes_bytes (take l.k (cover l.v l.w)))))
-
-abbrev pub decreases-loop-k : goal.decreases-loop-k
-decreases-loop-k l = length (cover l.v l.w) - l.k
+invariant-loop-k l = l.nodes ≡ written l.initial.nodes 0 (nodes_bytes (take l.k (cover l.v l.w)))

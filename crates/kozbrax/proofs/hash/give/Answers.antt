@@ -1,9 +1,11 @@
-use Rattle.kozbrax.proofs.Ranges.{hash_short, hash_long}
-use native.Mathlib.Omega.{arith}
+use Rattle.std.proofs.Common.{rules}
+use Rattle.kozbrax.specs.Hash.{hash_code}
 use Rattle.kozbrax.proofs.hash.give.Goals as goal
 
 pub returns-then-out-lt32 : goal.returns-then-out-lt32
-returns-then-out-lt32 c = (hash_short _ (omega arith), c.put.ensures)
+unfolding hash_code
+returns-then-out-lt32 c = search rules
 
-pub returns : goal.returns
-returns c = (hash_long _ (omega arith), c.put.ensures)
+pub returns-else-out-lt32 : goal.returns-else-out-lt32
+unfolding hash_code
+returns-else-out-lt32 c = search rules

@@ -1,17 +1,21 @@
-use Rattle.kozbrax.proofs.Ranges.{digest_short, digest-refused, digest-given, refused, passed}
+use native.Mathlib.Omega.{arith}
+use borrow.Author.Rules.{rules}
+use Rattle.kozbrax.specs.Hash.{hash_code}
+use Rattle.kozbrax.specs.Tree.{digest_code, digest_left}
+use Rattle.kozbrax.proofs.Ranges.{leaves-told, passed}
 use Rattle.kozbrax.proofs.hash.kozbrax_digest.Goals as goal
 
 pub returns-then-out-lt32 : goal.returns-then-out-lt32
-returns-then-out-lt32 c = digest_short _ _ c.if-out-lt32.true
+unfolding digest_code digest_left
+returns-then-out-lt32 c = search rules
 
 pub returns-then-not-leaves_fit : goal.returns-then-not-leaves_fit
-returns-then-not-leaves_fit c = digest-refused _ _ c.if-out-lt32.false (refused c.leaves_fit.ensures c.if-not-leaves_fit.true)
+unfolding digest_code digest_left
+returns-then-not-leaves_fit c = search rules
+
+pub overflow_cast-count : goal.overflow_cast-count
+overflow_cast-count c = omega (arith, leaves-told _ (passed c.leaves_fit.ensures c.if-not-leaves_fit.false))
 
 pub returns : goal.returns
-returns c =
-    let if1-left = c.if-out-lt32.false in
-    let leaves-fit = c.leaves_fit.ensures in
-    let if2-left = c.if-not-leaves_fit.false in
-    let block-digest = c.block_digest.ensures in
-    let give = c.give in
-    digest-given _ _ _ _ _ if1-left (passed leaves-fit if2-left) block-digest give.ensures.0 give.ensures.1
+unfolding digest_code digest_left hash_code
+returns c = search rules

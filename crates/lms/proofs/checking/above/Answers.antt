@@ -1,12 +1,11 @@
-use Prim.Native.Nat.{◌%◌}
-use borrow.Author.Tests.{eq-eqb, ne_eqb}
+use Rattle.std.proofs.Common.{rules}
 use Rattle.lms.specs.Check.{above}
 use Rattle.lms.proofs.checking.above.Goals as goal
 
-pub returns-then-n-eq1 : goal.returns-then-n-eq1
+pub returns-then-node-eq1 : goal.returns-then-node-eq1
 unfolding above
-returns-then-n-eq1 c = rw (eq-eqb (c.args.n % 2) 1 c.if-n-eq1.true) c.inner.ensures
+returns-then-node-eq1 c = search rules
 
-pub returns : goal.returns
+pub returns-else-node-eq1 : goal.returns-else-node-eq1
 unfolding above
-returns c = rw (ne_eqb (c.args.n % 2) 1 c.if-n-eq1.false) c.inner-2.ensures
+returns-else-node-eq1 c = search rules

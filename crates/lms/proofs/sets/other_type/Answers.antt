@@ -1,11 +1,11 @@
+use Rattle.std.proofs.Common.{rules}
 use Rattle.lms.specs.Sets.{other_type}
-use borrow.Author.Tests.{eq-eqb, ne_eqb}
 use Rattle.lms.proofs.sets.other_type.Goals as goal
 
 pub returns-then-t-eq0 : goal.returns-then-t-eq0
 unfolding other_type
-returns-then-t-eq0 c = rw (eq-eqb c.args.t 0 c.if-t-eq0.true)
+returns-then-t-eq0 c = search rules
 
-pub returns : goal.returns
+pub returns-else-t-eq0 : goal.returns-else-t-eq0
 unfolding other_type
-returns c = rw (ne_eqb c.args.t 0 c.if-t-eq0.false)
+returns-else-t-eq0 c = search rules

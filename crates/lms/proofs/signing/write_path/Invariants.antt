@@ -1,5 +1,5 @@
 use mathlib.Core.Path.{◌≡◌}
-use Prim.Native.Nat.{◌≤◌, ◌-◌, ◌/◌, ◌^◌}
+use Prim.Native.Nat.{◌/◌, ◌^◌}
 use lib.Bits.{bit_xor}
 use Rattle.sha256.specs.Bytes.{written}
 use Rattle.lms.specs.Signature.{node_at}
@@ -7,8 +7,4 @@ use Rattle.lms.specs.Types.{cat}
 use Rattle.lms.proofs.signing.write_path.Given as goal
 
 abbrev pub invariant-loop-i : goal.invariant-loop-i
-invariant-loop-i l =
-    (l.i ≤ l.h) × (l.place ≡ written l.initial.place l.at (cat (λ j. node_at l.tree (bit_xor (l.leaf / 2 ^ j) 1)) l.i))
-
-abbrev pub decreases-loop-i : goal.decreases-loop-i
-decreases-loop-i l = l.h - l.i
+invariant-loop-i l = l.place ≡ written l.initial.place l.at (cat (λ j. node_at l.tree (bit_xor (l.leaf / 2 ^ j) 1)) l.i)

@@ -5,28 +5,18 @@ use Rattle.lms.specs.Tree.{node_over}
 use Rattle.lms.proofs.Growth.{height_held}
 use Rattle.lms.proofs.tree.node.Goals as goal
 
-pub returns-then-first-r : goal.returns-then-first-r
+pub returns-then-r-first : goal.returns-then-r-first
 unfolding node_over
-returns-then-first-r c =
-    let the-args = c.args in
-    let the-pre = c.requires in
-    let one = height_held the-args.h the-pre.1.0 in
-    let le : 2 ^ the-args.h ≤ the-args.r = omega (arith, c.if-first-r.true) in rw (
-      le-leb (2 ^ the-args.h) the-args.r le,
-      c.leaf.ensures,
-      c.key.ensures,
-      one,
-    )
+returns-then-r-first c =
+    let h = c.args.rows.now.lms.h in
+    let one = height_held h c.args.rows.now.is_low in
+    let lt : c.args.r < 2 ^ h = omega (arith, c.if-r-first.true) in
+    rw (lt-leb (2 ^ h) c.args.r lt, c.inner.ensures, c.node_at-then-r-first.ensures, c.node_at.ensures)
 
 pub returns : goal.returns
 unfolding node_over
 returns c =
-    let the-args = c.args in
-    let the-pre = c.requires in
-    let one = height_held the-args.h the-pre.1.0 in
-    let lt : the-args.r < 2 ^ the-args.h = omega (arith, c.if-first-r.false) in rw (
-      lt-leb (2 ^ the-args.h) the-args.r lt,
-      c.inner.ensures,
-      c.node_at-2.ensures,
-      c.node_at.ensures,
-    )
+    let h = c.args.rows.now.lms.h in
+    let one = height_held h c.args.rows.now.is_low in
+    let le : 2 ^ h ≤ c.args.r = omega (arith, c.if-r-first.false) in
+    rw (le-leb (2 ^ h) c.args.r le, c.leaf.ensures, c.public_hash.ensures, one)

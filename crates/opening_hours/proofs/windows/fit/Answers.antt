@@ -1,39 +1,32 @@
 use mathlib.Core.Path.{refl, ◌∙◌}
-use borrow.Author.Rules.{rules}
-use Rattle.opening_hours.proofs.InOrder.{too_many, not_in_order, all_in_order, half-window, order-ended, overlaps, empty, too_late}
-use Rattle.opening_hours.proofs.InOrder.{order-goes-on}
+use Rattle.opening_hours.proofs.InOrder.{too_many, not_in_order, overlaps, empty, too_late}
+use Rattle.opening_hours.proofs.InOrder.{order-goes-on, behind-first, all-read}
 use Rattle.opening_hours.proofs.windows.fit.Goals as goal
+use Rattle.opening_hours.proofs.windows.fit.Goals.{then-first-after-via-then-first-after, then-first-after-via-else-first-after+then-end-first, then-first-after-via-else-first-after+else-end-first+then-end-gt-WEEK}
 
-pub returns-then-count-gt64 : goal.returns-then-count-gt64
-returns-then-count-gt64 c = too_many _ c.if-count-gt64.true
+pub returns-then-windows-gt64 : goal.returns-then-windows-gt64
+returns-then-windows-gt64 c = too_many _ c.if-windows-gt64.true
 
-pub loop-at-init : goal.loop-at-init
-loop-at-init c = (search rules, refl)
+pub loop-rest-init : goal.loop-rest-init
+loop-rest-init c = refl
 
-pub returns-then-count-at : goal.returns-then-count-at
-returns-then-count-at c = not_in_order _ (c.loop-at.invariant.1 ∙ half-window _ _ _ c.loop-at-test.true c.if-count-at.true)
+pub returns-then-first-after : goal.returns-then-first-after
+returns-then-first-after c =
+    let pair = c.in-len2-up.len_at_least in
+    let known = c.loop-rest.invariant in
+    not_in_order _ (known ∙ elim c.then-first-after.branch [
+      | then-first-after-via-then-first-after w ↦ overlaps c.loop-rest.rest.now 0 _ pair w.if-first-after.true
+      | then-first-after-via-else-first-after+then-end-first w ↦ empty c.loop-rest.rest.now 0 _ pair w.if-end-first.true
+      | then-first-after-via-else-first-after+else-end-first+then-end-gt-WEEK w ↦ too_late c.loop-rest.rest.now 0 _ pair w.if-end-gt-WEEK.true
+    ])
 
-pub returns-then-first-end : goal.returns-then-first-end
-returns-then-first-end c =
-    not_in_order _ (c.loop-at.invariant.1 ∙ overlaps _ _ _ c.if-count-at.false c.if-first-end.true)
-
-pub returns-then-end-first : goal.returns-then-end-first
-returns-then-end-first c =
-    let pair = c.if-count-at.false in
-    not_in_order _ (c.loop-at.invariant.1 ∙ empty _ _ _ pair c.if-end-first.true)
-
-pub returns-then-end-gt10080 : goal.returns-then-end-gt10080
-returns-then-end-gt10080 c =
-    not_in_order _ (c.loop-at.invariant.1 ∙ too_late _ _ _ c.if-count-at.false c.if-end-gt10080.true)
-
-pub loop-at-preserved : goal.loop-at-preserved
-loop-at-preserved c =
-    let pair = c.if-count-at.false in
-    let order = c.if-first-end.false in
-    let known = c.loop-at.invariant.1 in
-    (pair, known ∙ order-goes-on _ _ _ pair order c.if-end-first.false c.if-end-gt10080.false)
+pub loop-rest-preserved : goal.loop-rest-preserved
+loop-rest-preserved c =
+    let rest = c.loop-rest.rest.now in
+    rw (behind-first rest)
+    (c.loop-rest.invariant ∙ order-goes-on rest 0 _ c.in-len2-up.len_at_least c.if-first-after.false c.if-end-first.false c.if-end-gt-WEEK.false)
 
 pub returns : goal.returns
 returns c =
-    let ws = c.args.windows.now in
-    all_in_order ws c.if-count-gt64.false (c.loop-at.invariant.1 ∙ order-ended ws _ _ c.loop-at-test.false)
+    rw (c.is_empty.ensures, c.is_empty-2.ensures)
+    (all-read _ _ _ c.if-windows-gt64.false c.in_default.len_below c.loop-rest.invariant)

@@ -1,11 +1,10 @@
 use Rattle.sha256.proofs.Window.{window}
 use Rattle.sha256.specs.Block.{schedule, rounds}
-use Rattle.std.proofs.Common.{◌≡◌, ◌-◌, ◌%◌, ◌<◌, ◌≤◌}
+use Rattle.std.proofs.Common.{◌≡◌, ◌*◌, ◌<◌}
 use Rattle.sha256.proofs.block.compress.Given as goal
 
-abbrev pub invariant-loop-t : goal.invariant-loop-t
-invariant-loop-t l = (l.t % 16 ≡ 0)
-    × ((l.t ≤ 64) × ((l.v ≡ rounds l.t (schedule 64 l.initial.w) l.initial.v) × (l.t < 64 → l.w ≡ window l.t l.initial.w)))
-
-abbrev pub decreases-loop-t : goal.decreases-loop-t
-decreases-loop-t l = 64 - l.t
+abbrev pub invariant-loop-group : goal.invariant-loop-group
+invariant-loop-group l = record {
+  variables : l.v ≡ rounds (16 * l.group) (schedule 64 l.initial.w) l.initial.v;
+  words : l.group < 4 → l.w ≡ window (16 * l.group) l.initial.w;
+}

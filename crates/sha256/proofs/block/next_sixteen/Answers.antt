@@ -1,24 +1,11 @@
-use Rattle.sha256.specs.Inner.{shifted_by}
+use Rattle.sha256.specs.Inner.{shifted, shifted_by}
+use Rattle.std.proofs.Common.{refl, ap, ◌∙◌, add-one}
 use Rattle.sha256.proofs.block.next_sixteen.Goals as goal
 
-pub returns : goal.returns
+pub loop-init : goal.loop-init
 unfolding shifted_by
-returns c =
-    rw (
-      c.slide-w16.ensures,
-      c.slide-w15.ensures,
-      c.slide-w14.ensures,
-      c.slide-w13.ensures,
-      c.slide-w12.ensures,
-      c.slide-w11.ensures,
-      c.slide-w10.ensures,
-      c.slide-w9.ensures,
-      c.slide-w8.ensures,
-      c.slide-w7.ensures,
-      c.slide-w6.ensures,
-      c.slide-w5.ensures,
-      c.slide-w4.ensures,
-      c.slide-w3.ensures,
-      c.slide-w2.ensures,
-      c.slide-w1.ensures,
-    )
+loop-init c = refl
+
+pub loop-preserved : goal.loop-preserved
+unfolding shifted_by
+loop-preserved c = rw add-one (c.slide-next.ensures ∙ ap shifted c.loop.invariant)

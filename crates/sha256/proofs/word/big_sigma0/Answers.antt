@@ -1,6 +1,6 @@
-use Rattle.sha256.specs.Word.{Σ0}
+use Rattle.sha256.specs.Word.{Σ0, ROTR, SHR, SHL}
 use Rattle.sha256.proofs.word.big_sigma0.Goals as goal
 
 pub returns : goal.returns
-unfolding Σ0
-returns c = (cc)
+unfolding Σ0 ROTR SHR SHL
+returns c = rw (c.rotate_right-3.ensures, c.rotate_right-2.ensures, c.rotate_right.ensures)

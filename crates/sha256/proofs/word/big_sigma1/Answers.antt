@@ -1,6 +1,6 @@
-use Rattle.sha256.specs.Word.{Σ1}
+use Rattle.sha256.specs.Word.{Σ1, ROTR, SHR, SHL}
 use Rattle.sha256.proofs.word.big_sigma1.Goals as goal
 
 pub returns : goal.returns
-unfolding Σ1
-returns c = (cc)
+unfolding Σ1 ROTR SHR SHL
+returns c = rw (c.rotate_right-3.ensures, c.rotate_right-2.ensures, c.rotate_right.ensures)

@@ -1,6 +1,6 @@
-use Rattle.sha256.specs.Word.{σ1, SHR}
+use Rattle.sha256.specs.Word.{σ1, ROTR, SHR, SHL}
 use Rattle.sha256.proofs.word.small_sigma1.Goals as goal
 
 pub returns : goal.returns
-unfolding σ1 SHR
-returns c = (cc)
+unfolding σ1 ROTR SHR SHL
+returns c = rw (c.rotate_right-2.ensures, c.rotate_right.ensures)

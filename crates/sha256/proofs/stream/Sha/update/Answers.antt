@@ -6,8 +6,7 @@ use Rattle.sha256.proofs.stream.Sha.update.Goals as goal
 pub returns-then-more-at : goal.returns-then-more-at
 returns-then-more-at c =
     let args = c.args in
-    let wrapping-add-u64 = c.wrapping_add_u64-count.ensures.value in
-    λ m e. took_part args.self m e args.more.now _ _ (omega arith) c.put.ensures wrapping-add-u64
+    λ m e. took_part args.self m e args.more.now _ _ (omega arith) c.put.ensures refl
 
 pub slice_bounds-put-end-3 : goal.slice_bounds-put-end-3
 slice_bounds-put-end-3 c = sym (length-take-le _ _ (omega arith))
@@ -15,9 +14,7 @@ slice_bounds-put-end-3 c = sym (length-take-le _ _ (omega arith))
 pub returns : goal.returns
 returns c =
     let args = c.args in
-    let wrapping-add-u64 = c.wrapping_add_u64-count.ensures.value in
     let put2 = c.put-2.ensures in
-    let words-at = c.words_at.ensures in
     let the-compress = c.compress-next.ensures in
     λ m e. took_more args.self m e args.more.now _ _ _ _ _ (omega arith) put2
-    (the-compress ∙ ap (compress args.self.state) words-at) refl wrapping-add-u64 c.absorb.ensures
+    (the-compress ∙ ap (compress args.self.state) c.words_of.ensures) refl refl c.absorb.ensures

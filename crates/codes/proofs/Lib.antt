@@ -1,0 +1,2 @@
+-- Laws that the proofs of the crates above cite.
+pub mod Numbers

@@ -1,0 +1,3 @@
+-- What the contracts of every layer cite: the numbers of refusals and of kinds.
+pub mod Kinds
+pub mod Refusals

@@ -1,4 +1,0 @@
-use Rattle.user_list.proofs.answer_room.Goals as goal
-
-pub returns : goal.returns
-returns c = c.at_most.ensures
