@@ -16,9 +16,6 @@ use Rattle.firing.specs.Schedule.{twos_complement, same_sign}
 
 -- A number of one width, cast to a wider one, is the same number.
 module _ (w w' : Width) (z : ℤ) (wider : T (leb (hbits w) (hbits w'))) (f : SFits w z) where
-  pub widens : SFits w' (to_z w (of_z w z))
-  widens = subst (SFits w') (sym (to_z-of_z f)) (sfits_widen wider f)
-
   pub widened : to_z w' (of_z w' (to_z w (of_z w z))) ≡ z
   widened = ap (λ (y : ℤ). to_z w' (of_z w' y)) (to_z-of_z f) ∙ to_z-of_z {w = w'} (sfits_widen wider f)
 

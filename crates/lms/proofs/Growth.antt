@@ -6,7 +6,7 @@ use Prim.Native.Nat.{ℕ, zero, suc, ◌+◌, ◌-◌, ◌*◌, ◌%◌, ◌^◌
 use native.Mathlib.Nat.{pow-suc, eq-or-lt_of_le}
 use native.Mathlib.Omega.{arith}
 use borrow.Author.Tests.{le-leb, lt-leb}
-use lib.Pow.{pow_pos, pow_mono}
+use lib.Pow.{pow_mono}
 use lib.ListN.{length, take, drop, take-append-drop}
 use lib.Seq.{take-add}
 use Rattle.sha256.specs.Bytes.{written}
@@ -32,15 +32,6 @@ height_held_32 h g = omega (arith, height_most h g)
 
 pub nodes-held : (h : ℕ) → h ≤ 25 → 2 * 2 ^ h % 18446744073709551616 ≡ 2 ^ suc h
 nodes-held h g = omega (arith, height_most h g, pow-suc 2 h)
-
--- the number of the last node of a tree
-pub last-node : (h : ℕ) → h ≤ 25 → let n = 2 * 2 ^ h % 18446744073709551616 in (1 ≤ n) × ((n - 1 < 2 ^ suc h) × (n - 1 < 67108864))
-last-node h g =
-    let all = nodes-held h g in
-    let most = height_most h g in
-    let z = pow_pos h in
-    let two = pow-suc 2 h in
-    (omega arith, (omega arith, omega arith))
 
 -- the parts of 32 bytes of a string, joined again
 parts_joined : (t : List ℕ) (n : ℕ) → cat (λ i. take 32 (drop (32 * i) t)) n ≡ take (32 * n) t
