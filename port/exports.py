@@ -12,7 +12,8 @@ C_NUMBERS = {"u8": "uint8_t", "u16": "uint16_t", "u32": "uint32_t", "u64": "uint
 # A usize has 64 bits where the library is proved. Where it has fewer, two exports could meet a number that it does not hold. They begin
 # with these lines, which change nothing where it has 64:
 # - the server takes `used` as a usize; one that is too large for it is above store_len, which the header answers with 22;
-# - settled adds the wait to `position` as a usize; a position above the last one is out of range, and so is 0, which is taken for it.
+# - settled added the wait to `position` as a usize, and adds them as a u64 today; a position above the last one is out of range, and so is 0,
+#   which is taken for it.
 SHORT_USIZE = {
     "kozbrax_server": ["if used > usize::MAX as u64 {", "    return Served { code: 22, answer: 0, used };", "}"],
     "kozbrax_settled": ["let position = if usize::BITS < 64 && position > 1048576 { 0 } else { position };"],

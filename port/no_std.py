@@ -4,7 +4,8 @@
     python3 port/no_std.py [FOLDER]    # where none is named: target/port of the repository
 
 Contracts (`requires`, `ensures`), ghost lines, `#[derive(Drop)]`, the bound `Drop` and the line `#![tactic(auto)]` go. What changes besides is in `rewritten`,
-and in exports.py for the exported functions; everything else is copied as it stands. The script stops where it meets a form that it does not know.
+in older.py for compilers from rustc 1.63 on, and in exports.py for the exported functions; everything else is copied as it stands. The script stops where it meets a
+form that it does not know.
 """
 import re
 import shutil
@@ -12,6 +13,7 @@ import sys
 from pathlib import Path
 
 import exports
+import older
 from scanner import Refused, Token, closing, is_code, joined, neighbour, scan, text_at
 
 ROOT = Path(__file__).resolve().parent.parent
@@ -169,23 +171,29 @@ def rewritten(source, crate):
     if crate == LIBRARY:
         tokens, found = exports.taken_out(tokens, where)
     check_forms(tokens, where)
+    tokens, renamed = older.with_older_functions(older.without_let_else(tokens, where))
     before = inserted(tokens, where)
     text = joined([Token("", before.get(i, "") + token.text, 0) for i, token in enumerate(tokens)])
-    return text + (exports.exported_module(found) if found else ""), found
+    return text + (older.USE if renamed else "") + (exports.exported_module(found) if found else ""), found
 
 
 def write_crate(folder, crate, needed):
     """Writes one crate; gives its exports."""
     sources = ROOT / "crates" / crate / "src"
     (folder / crate / "src").mkdir(parents=True)
-    found = []
+    found, texts = [], {}
     for source in sorted(sources.rglob("*")):
         if source.is_dir() or source.suffix != ".rt":
             raise Refused(f"{source.relative_to(ROOT)}: a crate's sources are files NAME.rt in src/")
-        text, exported = rewritten(source, crate)
+        texts[source], exported = rewritten(source, crate)
         found += exported
+    uses_older = any(older.USE in text for text in texts.values())
+    if uses_older:
+        (folder / crate / "src" / "older.rs").write_text(older.MODULE)
+    for source, text in texts.items():
         text = HEAD.format(crate=crate, source=source.name) + text
         if source.name == "lib.rt":
+            text += "\nmod older;\n" if uses_older else ""
             text = NO_STD + (EXPORTING + text + PANIC_HANDLER if crate == LIBRARY else SAFE + text)
         (folder / crate / "src" / source.name).with_suffix(".rs").write_text(text)
     package = PACKAGE.format(name=crate, kind="staticlib" if crate == LIBRARY else "rlib")

@@ -8,6 +8,7 @@ from pathlib import Path
 
 import exports
 import no_std
+import older
 from scanner import Refused, joined, scan
 
 CONTRACT = "    requires { a < 2 }\n    ensures low { result ≡ { a } }\n    ensures high { result < 2 }\n"
@@ -53,10 +54,28 @@ class Changed(unittest.TestCase):
 
     def test_forms_that_stay(self):
         source = (
-            "fn f<'a>(s: &'a [u8]) -> Option<&'a [u8]> {\n    let &[a, ref b @ ..] = s else { return None };\n"
-            "    g(a)?;\n    for k in 0..2 {\n    }\n    Some(b)\n}\n"
+            "fn f<'a>(s: &'a [u8]) -> Option<&'a [u8]> {\n    if let &[a, ref b @ ..] = s {\n        g(a)?;\n"
+            "        for k in 0..2 {\n        }\n    }\n    let c = if d { 1 } else { 2 };\n    Some(b)\n}\n"
         )
         self.assertEqual(rewritten(source), source, "patterns, `?` and loops")
+
+    def test_let_else(self):
+        for source, text in (
+            ("let Some(a) = f(b) else { return None };", "let a = match f(b) { Some(a) => a, _ => { return None } };"),
+            ("let &[a, ref b @ ..] = s else { return 1 };", "let (a, b) = match s { &[a, ref b @ ..] => (a, b), _ => { return 1 } };"),
+            (
+                "let Ok(a) = g({ 1 }, [2]) else {\n        let Some(c) = h() else { return };\n        return;\n    };",
+                "let a = match g({ 1 }, [2]) { Ok(a) => a, _ => {\n        let c = match h() { Some(c) => c, _ => { return } };\n        return;\n    } };",
+            ),
+        ):
+            self.assertEqual(rewritten(f"fn f() {{\n    {source}\n}}\n"), f"fn f() {{\n    {text}\n}}\n", "a match in place of `let .. else`")
+
+    def test_newer_functions(self):
+        source = "fn f(a: u32, b: u32) -> u32 {\n    a.div_ceil(b).ilog2()\n}\n"
+        text = "fn f(a: u32, b: u32) -> u32 {\n    a.quotient_up(b).floor_log()\n}\n" + older.USE
+        self.assertEqual(rewritten(source), text, "functions of the module that is written beside the sources")
+        source = "fn ilog2(a: u32) -> u32 {\n    ilog2(a)\n}\n"
+        self.assertEqual(rewritten(source), source, "only methods are core's")
 
     def test_wide_numbers(self):
         source = "fn f(n: usize) -> u32 {\n    (n % 4294967296) as u32\n}\n"
@@ -107,6 +126,8 @@ class RefusedForms(unittest.TestCase):
         self.refused("fn f() -> u64 {\n    4294967296\n}\n", "more than 32 bits")
         self.refused("fn f() {\n    1.5;\n}\n", "no known token")
         self.refused("fn f() {\n    1e5;\n}\n", "the number 1e5")
+        self.refused("fn f() {\n    let A { a: b } = c else { return };\n}\n", "a path or a field")
+        self.refused("fn f() {\n    let None = c else { return };\n}\n", "binds no name")
 
     def test_exports(self):
         head = '#[unsafe(no_mangle)]\npub extern "C" fn kozbrax_f'

@@ -60,7 +60,7 @@ fn write_answer(
     requires { length m.old.signature.now ≡ longest_signature }
     ensures same { SameBuffers m.old m.new }
     ensures yields { UserYields (answered_by (settings_of config users.now) (lent_bytes m.old)
-        (key_of key.now.id key.now.seed key.now.tree.now) (writing w) answer.now)
+        (key_of key.now.id.now key.now.seed.now key.now.tree.now) (writing w) answer.now)
         result (lent_bytes m.new) }
 {
     let k = user_state::kept_of(m.kept);
@@ -138,7 +138,7 @@ fn call_answer(
     requires { length m.old.signature.now ≡ longest_signature }
     ensures same { SameBuffers m.old m.new }
     ensures yields { UserYields (user_answered (settings servers own log.now users.now) (lent_bytes m.old)
-        (key_of key.now.id key.now.seed key.now.tree.now) answer.now)
+        (key_of key.now.id.now key.now.seed.now key.now.tree.now) answer.now)
         result (lent_bytes m.new) }
 {
     let config = numbers::config(servers, own, log);
@@ -188,10 +188,6 @@ pub fn take(
         request,
         entry,
     };
-    let key = OwnKey {
-        id: *id,
-        seed: *seed,
-        tree,
-    };
+    let key = OwnKey { id, seed, tree };
     call_answer(servers, own, log, users, &key, answer, &mut m)
 }

@@ -8,11 +8,12 @@ use crate::NONE;
 use sha256::bytes;
 use tree::cover;
 
-// Whether the cover from v to w may be asked for and its nodes have room.
+// Whether the cover from v to w may be asked for and its nodes have room. They are counted where the ends are in range alone.
 fn asked(v: u32, w: u32, nodes: &[u8]) -> bool
     ensures { result ≡ cover_asked v w nodes.now }
 {
-    (v.max(1) <= w) & ((w <= 1048576) & (5 * cover::cover_count(v, w) <= nodes.len()))
+    let in_range = (v.max(1) <= w) & (w <= 1048576);
+    in_range && 5 * cover::cover_count(v, w) <= nodes.len()
 }
 
 // Writes the nodes of the cover from v to w, 5 bytes each.

@@ -39,23 +39,26 @@ fn climb(rows: &Rows, path: &[u8], node: Place, t: [u8; 32]) -> [u8; 32]
     x
 }
 
-// Whether a key is of the set's types and length.
+// Whether a key is of the set's types and length. Here and below a wrong length is refused before a byte is read.
 fn key_fits(rows: &Rows, key: &[u8]) -> bool
     ensures { result ≡ key_fits rows.now.ots rows.now.lms key.now }
 {
-    (key.len() == 56)
-        & ((bytes::u32_at(key, 0) == rows.lms.lmstype)
-            & (bytes::u32_at(key, 4) == rows.ots.otstype))
+    if key.len() != 56 {
+        return false;
+    }
+    (bytes::u32_at(key, 0) == rows.lms.lmstype) & (bytes::u32_at(key, 4) == rows.ots.otstype)
 }
 
 // Whether a signature is of the set's types, length and numbers.
 fn signature_fits(rows: &Rows, s: &[u8]) -> bool
     ensures { result ≡ signature_fits rows.now.ots rows.now.lms s.now }
 {
-    (s.len() == rows.signature_size())
-        & ((bytes::u32_at(s, 4) == rows.ots.otstype)
-            & ((bytes::u32_at(s, 8 + 32 * (rows.ots.p + 1)) == rows.lms.lmstype)
-                & ((bytes::u32_at(s, 0) as usize) < (1 << rows.lms.h))))
+    if s.len() != rows.signature_size() {
+        return false;
+    }
+    (bytes::u32_at(s, 4) == rows.ots.otstype)
+        & ((bytes::u32_at(s, 8 + 32 * (rows.ots.p + 1)) == rows.lms.lmstype)
+            & ((bytes::u32_at(s, 0) as usize) < (1 << rows.lms.h)))
 }
 
 // I out of a public key.
@@ -64,7 +67,7 @@ fn id_of(key: &[u8]) -> [u8; 16]
     ensures { result ≡ take 16 (drop 8 key.now) }
 {
     let mut id = [0u8; 16];
-    id.copy_from_slice(&key[8..24]);
+    bytes::put(&mut id, 0, bytes::front(bytes::from(key, 8), 16));
     id
 }
 

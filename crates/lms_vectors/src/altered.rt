@@ -4,17 +4,12 @@ use sha256::bytes;
 use std::io;
 use std::rt::Files;
 
-// Reads an accepted record, puts a byte behind its key and its signature, and runs the changes below.
-pub fn run(rt: &(impl Files + AllocGlobal + Print + Eprint), name: &str) -> io::Result<()> {
-    let mut r = record::fields(rt, name, ".txt", [57, 2509, 256])?;
-    r.first.resize(57, 0)?;
-    r.second.resize(2509, 0)?;
-    each(
-        rt,
-        r.first.as_mut_slice(),
-        r.third.as_slice(),
-        r.second.as_mut_slice(),
-    )
+// Reads an accepted record, with room for a byte more behind its key and its signature, and runs the changes below.
+pub fn run(rt: &(impl Files + Print + Eprint), name: &str) -> io::Result<()> {
+    let r = record::fields::<57, 2509, 256>(rt, name, ".txt")?;
+    let mut key = r.first.bytes;
+    let mut signature = r.second.bytes;
+    each(rt, &mut key, r.third.as_slice(), &mut signature)
 }
 
 // The record with each change, and at last as it is.

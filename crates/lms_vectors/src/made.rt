@@ -14,33 +14,23 @@ struct Secrets {
 
 // Generates a key from its file, prints its public key and the signature of a record's text with that number, checks it, and runs what is
 // refused.
-pub fn run(
-    rt: &(impl Files + AllocGlobal + Print + Eprint),
-    name: &str,
-    number: u32,
-) -> io::Result<()> {
+pub fn run(rt: &(impl Files + Print + Eprint), name: &str, number: u32) -> io::Result<()> {
     let k = read_secrets(rt, name)?;
-    let text = record::read_record(rt, name)?.third;
+    let record = record::read_record(rt, name)?;
+    let text = record.third.as_slice();
     let mut nodes = [0u8; 65536];
     let code = lms::generate(6, 3, k.seed, k.id, &mut nodes);
     println!(rt; "{name} generate: {code}")?;
-    sign_and_check(rt, name, k, number, &text, &nodes)?;
-    refusals(rt, name, k, number, &text, &nodes)
-}
-
-// The bytes of s, and zeros behind them.
-fn filled<const N: usize>(s: &[u8]) -> [u8; N] {
-    let mut all = [0u8; N];
-    bytes::put(&mut all, 0, s);
-    all
+    sign_and_check(rt, name, k, number, text, &nodes)?;
+    refusals(rt, name, k, number, text, &nodes)
 }
 
 // Reads a key's seed, I and randomizer.
-fn read_secrets(rt: &(impl Files + AllocGlobal + Eprint), name: &str) -> io::Result<Secrets> {
-    let k = record::fields(rt, name, "_key.txt", [32, 16, 32])?;
-    let seed = filled(&k.first);
-    let id = filled(&k.second);
-    let randomizer = filled(&k.third);
+fn read_secrets(rt: &(impl Files + Eprint), name: &str) -> io::Result<Secrets> {
+    let k = record::fields::<32, 16, 32>(rt, name, "_key.txt")?;
+    let seed = k.first.bytes;
+    let id = k.second.bytes;
+    let randomizer = k.third.bytes;
     Ok(Secrets {
         seed,
         id,

@@ -1,6 +1,6 @@
 -- Big-endian numbers of two, four and eight bytes, written out as the functions compute them.
-use Rattle.std.proofs.Common.{◌≡◌, ℕ, suc, ◌+◌, ◌-◌, ◌*◌, ◌/◌, ◌%◌, ◌<◌, ◌≤◌, List, [], ◌∷◌, ◌++◌, length, get_or, take, drop, sym, ap, ◌∙◌, add-zero, div-one, add-one, arith, length-drop, drop_of_length-le, get_or-drop, take_all}
-use lib.Seq.{take-length, drop-length, paste}
+use Rattle.std.proofs.Common.{◌≡◌, ℕ, suc, ◌+◌, ◌-◌, ◌*◌, ◌/◌, ◌%◌, ◌<◌, ◌≤◌, List, [], ◌∷◌, ◌++◌, length, get_or, take, drop, set, sym, ap, ◌∙◌, add-zero, div-one, add-one, arith, length-drop, drop_of_length-le, get_or-drop, take_all}
+use lib.Seq.{take-length, drop-length, paste, paste-suc}
 use Rattle.sha256.specs.Bytes.{be, number_at, written}
 use Rattle.sha256.proofs.Laws.{written-fits}
 
@@ -33,6 +33,11 @@ number_four s i =
 -- the copying loop's result is what the definition says is written
 pub copied : (d : List ℕ) (at : ℕ) (s : List ℕ) → at + length s ≤ length d → paste d at s (length s) ≡ written d at s
 copied d at s h = ap (λ (x : List ℕ). take at d ++ x ++ drop (at + length s) d) (take-length s) ∙ sym (written-fits d at s h)
+
+-- one turn of the copying loop
+pub copy_more : (d e : List ℕ) (at : ℕ) (s : List ℕ) (j : ℕ) → at + j < length d → j < length s → e ≡ paste d at s j
+    → set e (at + j) (get_or s j 0) ≡ paste d at s (j + 1)
+copy_more d e at s j h g p = rw (p, add-one) (paste-suc d at s j 0 h g)
 
 -- a part from place n to the end is what is left after n, also where n is past the end
 pub rest-is : (n : ℕ) (s : List ℕ) → take (length s - n) (drop n s) ≡ drop n s

@@ -1,5 +1,6 @@
 // Bytes and big-endian numbers: reads that answer past the end too, and writes that leave a buffer alone where they do not fit.
-ghost use Rattle.std.specs.Prelude.{◌≡◌, ◌++◌, take, drop, slice_index};
+ghost use Rattle.std.specs.Prelude.{◌≡◌, ◌+◌, ◌≤◌, ◌++◌, length, take, drop, slice_index};
+ghost use Rattle.std.proofs.Math.Seq.{paste};
 ghost use Rattle.sha256.specs.Bytes.{be, number_at, written, eqs};
 
 // The byte at i, 0 past the end.
@@ -65,7 +66,7 @@ pub fn put(d: &mut [u8], at: usize, src: &[u8])
     ensures { d.new ≡ written d.old at src.now }
 {
     if src.len() <= d.len() && at <= d.len() - src.len() {
-        d[at..at + src.len()].copy_from_slice(src);
+        copy(d, at, src);
     }
 }
 
@@ -84,4 +85,14 @@ pub fn same(a: &[u8], b: &[u8]) -> bool
     ensures { result ≡ eqs a.now b.now }
 {
     a == b
+}
+
+// The copying loop behind `put`. It is no copy_from_slice: of whoever links the library that needs memmove, and nothing else here does.
+fn copy(d: &mut [u8], at: usize, src: &[u8])
+    requires { at + length src.now ≤ length d.old }
+    ensures { d.new ≡ paste d.old at src.now (length src.now) }
+{
+    for j in 0..src.len() {
+        d[at + j] = src[j];
+    }
 }

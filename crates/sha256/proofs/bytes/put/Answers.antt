@@ -1,15 +1,13 @@
 use Rattle.sha256.proofs.Numbers.{copied}
 use Rattle.sha256.proofs.Laws.{written-not}
-use Rattle.std.proofs.Common.{length, sym, refl, ◌∙◌, arith}
-use Rattle.std.proofs.lemmas.Slice.{put_mid-paste}
+use Rattle.std.proofs.Common.{sym, ◌∙◌, arith}
 use Rattle.sha256.proofs.bytes.put.Goals as goal
 use Rattle.sha256.proofs.bytes.put.Goals.{else-src-d-via-then-src-d+else-at-d, else-src-d-via-else-src-d}
 
 pub returns-then-at-d : goal.returns-then-at-d
 returns-then-at-d c =
     let args = c.args in
-    put_mid-paste _ _ _ _ args.src.now (length args.src.now) c.copy_from_slice.ensures.after (omega arith) refl
-    ∙ copied args.d.now args.at args.src.now (omega arith)
+    c.copy.ensures ∙ copied args.d.now args.at args.src.now (omega arith)
 
 pub returns-else-src-d : goal.returns-else-src-d
 returns-else-src-d c =
