@@ -60,10 +60,12 @@ impl Quotient for u32 {
 
 
 def names_bound(pattern, where):
-    """The names that a pattern binds: its words that are no keyword and begin with a small letter. Fields of structs are not known."""
-    if any(token.text in (":", "::") for token in pattern):
-        raise Refused(f"{where}: a pattern with a path or a field in front of `else`")
-    found = [token.text for token in pattern if token.kind == "word" and token.text[0].islower() and token.text not in ("ref", "mut")]
+    """The names that a pattern binds: its words that are no keyword and do not begin with a capital letter. Known are names, `ref`, constructors
+    around them and slices; paths, fields, numbers, `mut`, `true` and `false` are not."""
+    for token in pattern:
+        if token.kind not in ("blank", "word", "symbol") or token.text in (":", "::", "mut", "true", "false"):
+            raise Refused(f"{where}: '{token.text}' in a pattern in front of `else`")
+    found = [token.text for token in pattern if token.kind == "word" and not token.text[0].isupper() and token.text not in ("ref", "_")]
     if not found:
         raise Refused(f"{where}: a pattern that binds no name in front of `else`")
     return found[0] if len(found) == 1 else "(" + ", ".join(found) + ")"
@@ -104,6 +106,8 @@ def without_let_else(tokens, where):
         block = neighbour(tokens, other, 1)
         end = closing(tokens, block, where)
         names = names_bound(tokens[i + 1:equal], at)
+        if any(token.kind == "comment" for token in tokens[i:block]):
+            raise Refused(f"{at}: a comment between `let` and the block behind `else`")
         pattern = "".join(token.text for token in tokens[i + 1:equal]).strip()
         inner = without_let_else(tokens[equal + 1:other] + [Token("mark", "", 0)] + tokens[block:end + 1], where)
         mark = next(k for k, token in enumerate(inner) if token.kind == "mark")

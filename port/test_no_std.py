@@ -62,6 +62,7 @@ class Changed(unittest.TestCase):
     def test_let_else(self):
         for source, text in (
             ("let Some(a) = f(b) else { return None };", "let a = match f(b) { Some(a) => a, _ => { return None } };"),
+            ("let Some((a, _b)) = c else { return };", "let (a, _b) = match c { Some((a, _b)) => (a, _b), _ => { return } };"),
             ("let &[a, ref b @ ..] = s else { return 1 };", "let (a, b) = match s { &[a, ref b @ ..] => (a, b), _ => { return 1 } };"),
             (
                 "let Ok(a) = g({ 1 }, [2]) else {\n        let Some(c) = h() else { return };\n        return;\n    };",
@@ -126,7 +127,10 @@ class RefusedForms(unittest.TestCase):
         self.refused("fn f() -> u64 {\n    4294967296\n}\n", "more than 32 bits")
         self.refused("fn f() {\n    1.5;\n}\n", "no known token")
         self.refused("fn f() {\n    1e5;\n}\n", "the number 1e5")
-        self.refused("fn f() {\n    let A { a: b } = c else { return };\n}\n", "a path or a field")
+        self.refused("fn f() {\n    let A { a: b } = c else { return };\n}\n", "':' in a pattern")
+        self.refused("fn f() {\n    let Some(mut a) = c else { return };\n}\n", "'mut' in a pattern")
+        self.refused("fn f() {\n    let Some(true) = c else { return };\n}\n", "'true' in a pattern")
+        self.refused("fn f() {\n    let Some(a) = c // d\n    else { return };\n}\n", "a comment between")
         self.refused("fn f() {\n    let None = c else { return };\n}\n", "binds no name")
 
     def test_exports(self):

@@ -6,10 +6,11 @@ use std::rt::Files;
 
 // Reads an accepted record, with room for a byte more behind its key and its signature, and runs the changes below.
 pub fn run(rt: &(impl Files + Print + Eprint), name: &str) -> io::Result<()> {
-    let r = record::fields::<57, 2509, 256>(rt, name, ".txt")?;
-    let mut key = r.first.bytes;
-    let mut signature = r.second.bytes;
-    each(rt, &mut key, r.third.as_slice(), &mut signature)
+    let mut key = [0u8; 57];
+    let mut signature = [0u8; 2509];
+    let mut text = [0u8; 256];
+    let n = record::fields(rt, name, ".txt", &mut key, &mut signature, &mut text)?;
+    each(rt, &mut key, bytes::front(&text, n.third), &mut signature)
 }
 
 // The record with each change, and at last as it is.

@@ -16,8 +16,9 @@ struct Secrets {
 // refused.
 pub fn run(rt: &(impl Files + Print + Eprint), name: &str, number: u32) -> io::Result<()> {
     let k = read_secrets(rt, name)?;
-    let record = record::read_record(rt, name)?;
-    let text = record.third.as_slice();
+    let mut message = [0u8; 256];
+    let m = message_of(rt, name, &mut message)?;
+    let text = bytes::front(&message, m);
     let mut nodes = [0u8; 65536];
     let code = lms::generate(6, 3, k.seed, k.id, &mut nodes);
     println!(rt; "{name} generate: {code}")?;
@@ -27,15 +28,23 @@ pub fn run(rt: &(impl Files + Print + Eprint), name: &str, number: u32) -> io::R
 
 // Reads a key's seed, I and randomizer.
 fn read_secrets(rt: &(impl Files + Eprint), name: &str) -> io::Result<Secrets> {
-    let k = record::fields::<32, 16, 32>(rt, name, "_key.txt")?;
-    let seed = k.first.bytes;
-    let id = k.second.bytes;
-    let randomizer = k.third.bytes;
+    let mut seed = [0u8; 32];
+    let mut id = [0u8; 16];
+    let mut randomizer = [0u8; 32];
+    record::fields(rt, name, "_key.txt", &mut seed, &mut id, &mut randomizer)?;
     Ok(Secrets {
         seed,
         id,
         randomizer,
     })
+}
+
+// The text of a record, and its length.
+fn message_of(rt: &(impl Files + Eprint), name: &str, message: &mut [u8]) -> io::Result<usize> {
+    let mut key = [0u8; 56];
+    let mut signature = [0u8; 2508];
+    let n = record::fields(rt, name, ".txt", &mut key, &mut signature, message)?;
+    Ok(n.third)
 }
 
 // Prints the public key and the signature, and checks it.

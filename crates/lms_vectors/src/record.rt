@@ -39,59 +39,43 @@ fn first_line(text: &[u8]) -> (&[u8], &[u8]) {
     )
 }
 
-// What a line's digits stand for, N bytes at most, with zeros behind them. An array and no Vec, since memory could be refused.
+// How many bytes the three lines of a file stand for.
 #[derive(Clone, Copy)]
-pub struct Part<const N: usize> {
-    pub bytes: [u8; N],
-    pub length: usize,
+pub struct Lengths {
+    pub first: usize,
+    pub second: usize,
+    pub third: usize,
 }
 
-impl<const N: usize> Part<N> {
-    fn of(line: &[u8]) -> Part<N> {
-        let mut bytes = [0u8; N];
-        let length = lines::hex::decode(line, &mut bytes);
-        Part { bytes, length }
-    }
-
-    pub fn as_slice(&self) -> &[u8] {
-        bytes::front(&self.bytes, self.length)
-    }
-}
-
-// What the three lines of a file stand for.
-#[derive(Clone, Copy)]
-pub struct Parts<const A: usize, const B: usize, const C: usize> {
-    pub first: Part<A>,
-    pub second: Part<B>,
-    pub third: Part<C>,
-}
-
-// Reads a file, of each line the bytes that there is room for.
-pub fn fields<const A: usize, const B: usize, const C: usize>(
+// Reads a file, and lays what each of its three lines stands for to the front of a buffer, as far as it has room. The buffers are lent and no
+// Vec, since memory could be refused, and no arrays by value, since each copy takes stack.
+pub fn fields(
     rt: &(impl Files + Eprint),
     name: &str,
     ending: &str,
-) -> io::Result<Parts<A, B, C>> {
+    first: &mut [u8],
+    second: &mut [u8],
+    third: &mut [u8],
+) -> io::Result<Lengths> {
     let mut text = [0u8; 8192];
     let n = read(rt, name, ending, &mut text)?;
     let (one, rest) = first_line(bytes::front(&text, n));
     let (two, rest) = first_line(rest);
     let (three, _) = first_line(rest);
-    Ok(Parts {
-        first: Part::of(one),
-        second: Part::of(two),
-        third: Part::of(three),
+    Ok(Lengths {
+        first: lines::hex::decode(one, first),
+        second: lines::hex::decode(two, second),
+        third: lines::hex::decode(three, third),
     })
-}
-
-// Reads a record: its public key, its signature and its text.
-pub fn read_record(rt: &(impl Files + Eprint), name: &str) -> io::Result<Parts<56, 2508, 256>> {
-    fields(rt, name, ".txt")
 }
 
 // Checks a record's signature and prints the answer.
 pub fn check(rt: &(impl Files + Print + Eprint), name: &str) -> io::Result<()> {
-    let r = read_record(rt, name)?;
-    let (key, signature, text) = (r.first.as_slice(), r.second.as_slice(), r.third.as_slice());
-    report::answer(rt, name, lms::check(6, 3, key, text, signature))
+    let mut key = [0u8; 56];
+    let mut signature = [0u8; 2508];
+    let mut text = [0u8; 256];
+    let n = fields(rt, name, ".txt", &mut key, &mut signature, &mut text)?;
+    let (k, t) = (bytes::front(&key, n.first), bytes::front(&text, n.third));
+    let s = bytes::front(&signature, n.second);
+    report::answer(rt, name, lms::check(6, 3, k, t, s))
 }
