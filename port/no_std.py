@@ -171,9 +171,11 @@ def rewritten(source, crate):
     if crate == LIBRARY:
         tokens, found = exports.taken_out(tokens, where)
     check_forms(tokens, where)
-    tokens, renamed = older.with_older_functions(older.without_let_else(tokens, where))
+    tokens, renamed = older.with_older_functions(tokens)
     before = inserted(tokens, where)
-    text = joined([Token("", before.get(i, "") + token.text, 0) for i, token in enumerate(tokens)])
+    tokens = [Token(token.kind, before.get(i, "") + token.text, token.line) for i, token in enumerate(tokens)]
+    # The last of all, since it writes a value and a block as one token, into which nothing looks.
+    text = joined(older.without_let_else(tokens, where))
     return text + (older.USE if renamed else "") + (exports.exported_module(found) if found else ""), found
 
 

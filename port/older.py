@@ -68,6 +68,7 @@ def names_bound(pattern, where):
     found = [token.text for token in pattern if token.kind == "word" and not token.text[0].isupper() and token.text not in ("ref", "_")]
     if not found:
         raise Refused(f"{where}: a pattern that binds no name in front of `else`")
+    found = list(dict.fromkeys(found))
     return found[0] if len(found) == 1 else "(" + ", ".join(found) + ")"
 
 

@@ -71,6 +71,11 @@ class Changed(unittest.TestCase):
         ):
             self.assertEqual(rewritten(f"fn f() {{\n    {source}\n}}\n"), f"fn f() {{\n    {text}\n}}\n", "a match in place of `let .. else`")
 
+    def test_changes_within_let_else(self):
+        source = "fn f(a: usize) -> u32 {\n    let Some(b) = g(a % 4294967296) else { return h.ilog2() };\n    b\n}\n"
+        text = "fn f(a: usize) -> u32 {\n    let b = match g(a as u64 % 4294967296) { Some(b) => b, _ => { return h.floor_log() } };\n    b\n}\n" + older.USE
+        self.assertEqual(rewritten(source), text, "the other changes hold in its value and its block")
+
     def test_newer_functions(self):
         source = "fn f(a: u32, b: u32) -> u32 {\n    a.div_ceil(b).ilog2()\n}\n"
         text = "fn f(a: u32, b: u32) -> u32 {\n    a.quotient_up(b).floor_log()\n}\n" + older.USE
@@ -131,6 +136,8 @@ class RefusedForms(unittest.TestCase):
         self.refused("fn f() {\n    let Some(mut a) = c else { return };\n}\n", "'mut' in a pattern")
         self.refused("fn f() {\n    let Some(true) = c else { return };\n}\n", "'true' in a pattern")
         self.refused("fn f() {\n    let Some(a) = c // d\n    else { return };\n}\n", "a comment between")
+        self.refused("fn f() {\n    let Some(a) = f(4294967296 as usize) else { return };\n}\n", "more than 32 bits")
+        self.refused("fn f() {\n    let Some(a) = f(1e5) else { return };\n}\n", "the number 1e5")
         self.refused("fn f() {\n    let None = c else { return };\n}\n", "binds no name")
 
     def test_exports(self):
