@@ -1,7 +1,6 @@
 -- The nodes of a cover, written five bytes at a time.
 use mathlib.Core.Path.{◌≡◌, refl, ◌∙◌, sym, ap}
-use mathlib.Core.Bool.{Bool, true, false, ◌&&◌}
-use borrow.Author.Rules.{rules}
+use mathlib.Core.Bool.{true}
 use mathlib.Core.List.{List, [], ◌∷◌, ◌++◌, append_assoc, append-nil}
 use Prim.Native.Nat.{ℕ, ◌+◌, ◌*◌, ◌/◌, ◌≤◌, ◌<◌, max}
 use native.Mathlib.Numerals.{add-one}
@@ -17,17 +16,6 @@ use Rattle.tree.specs.declared.cover.Node.{Node}
 use Rattle.tree.proofs.Cases.{and-true}
 use Rattle.tree.proofs.Tiles.{tiles_few}
 use Rattle.kozbrax.specs.Tree.{nodes_bytes, cover_asked}
-
--- three tests of which the last is asked only where the first two pass
-pub three_passed : (a b c : Bool) → a && b ≡ true → c ≡ a && (b && c)
-three_passed true true c e = refl
-three_passed true false c e = search rules
-three_passed false b c e = search rules
-
-pub three_refused : (a b c : Bool) → a && b ≡ false → a && b ≡ a && (b && c)
-three_refused true true c e = search rules
-three_refused true false c e = refl
-three_refused false b c e = refl
 
 nodes-append : (xs ys : List Node) → nodes_bytes (xs ++ ys) ≡ nodes_bytes xs ++ nodes_bytes ys
 unfolding nodes_bytes
