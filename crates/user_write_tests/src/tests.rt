@@ -1,6 +1,5 @@
 // The functions of `user_write::requests` as another crate calls them: the write of position 4 with 4 servers, whose labels, by document 01's
 // formula, are 7, 8 and 9, so that servers 3, 4 and 1 own its path.
-use std::process::Abort;
 use tree::bytes;
 use tree::setup::Config;
 use user_write::call::OwnKey;
@@ -36,25 +35,19 @@ fn header_of(kind: u8, level: u8) -> [u8; 26] {
     ]
 }
 
-// Ends the test unless the buffer begins with a header and this body, and has a zero behind them.
-fn check(rt: &impl Abort, request: &[u8], kind: u8, level: u8, body: &[u8]) {
+// Whether the buffer begins with a header and this body, and has a zero behind them.
+fn is_laid(request: &[u8], kind: u8, level: u8, body: &[u8]) -> bool {
     let rest = bytes::from(request, 26);
-    assert!(rt;
-        request.starts_with(&header_of(kind, level)),
-        "header of {kind}, {level}"
-    );
-    assert!(rt; rest.starts_with(body), "body of {kind}, {level}");
-    assert_eq!(rt;
-        bytes::from(rest, body.len()).first(),
-        Some(&0),
-        "behind {kind}, {level}"
-    );
+    request.starts_with(&header_of(kind, level))
+        & rest.starts_with(body)
+        & (bytes::from(rest, body.len()).first() == Some(&0))
 }
 
 #[test]
 fn what_each_request_asks_for(rt: HostRuntime) {
     assert_eq!(rt; requests::commit_number(1), 2);
     assert_eq!(rt; requests::commit_number(4), 6);
+    assert_eq!(rt; requests::commit_number(6), 6);
     for j in 0..7u8 {
         let w = requests::want(4, 4, j);
         assert_eq!(rt; w.kind, KINDS[j as usize], "kind of {j}");
@@ -81,10 +74,23 @@ fn reserves_and_puts(rt: HostRuntime) {
         assert!(rt; n < requests::commit_number(4));
         let mut request = [0u8; 64];
         let step = requests::next(config(), 4, j, &path(), &entry, &mut request);
-        check(&rt, &request, KINDS[n], LEVELS[n], bodies[n]);
+        assert!(rt;
+            is_laid(&request, KINDS[n], LEVELS[n], bodies[n]),
+            "request {j}"
+        );
         assert_eq!(rt; step.length as usize, 26 + bodies[n].len(), "length of {j}");
         assert_eq!(rt; step.server, SERVERS[n], "server of {j}");
     }
+}
+
+#[test]
+fn a_request_with_a_body(rt: HostRuntime) {
+    let entry = [1u8, 75, 105, 108, 110];
+    let mut request = [0u8; 64];
+    let step = requests::hand_out(config(), requests::want(4, 4, 3), &entry, &mut request);
+    assert!(rt; is_laid(&request, 6, 0, &entry));
+    assert_eq!(rt; step.length, 31);
+    assert_eq!(rt; step.server, 3);
 }
 
 // A Commit's body: the digest, which is the path's last hash, and the signature.
@@ -99,16 +105,27 @@ fn the_commit_with_the_kept_signature(rt: HostRuntime) {
     let signature = [7u8; 2508];
     let mut request = [0u8; 2567];
     let step = requests::commit(config(), 4, 6, &path(), &signature, &mut request);
-    check(&rt, &request, 8, 2, &committed(&signature));
+    assert!(rt; is_laid(&request, 8, 2, &committed(&signature)));
     assert_eq!(rt; step.length, 2566);
     assert_eq!(rt; step.server, 1);
 }
 
-// What is kept is the signature that was handed out. It begins as RFC 8554 says, with the key's number, the type of its one-time signature
-// and the randomizer.
+// The text that is signed for position 4 by document 01: its mark, the log, the position and the digest.
+fn signed_text() -> [u8; 54] {
+    let mut text = [3u8; 54];
+    text[..22].copy_from_slice(&[
+        b'K', b'D', 9, 9, 9, 9, 9, 9, 9, 9, 9, 9, 9, 9, 9, 9, 9, 9, 0, 0, 0, 4,
+    ]);
+    text
+}
+
+// What is kept is the signature that was handed out, and the key's check takes it, with its number.
 #[test]
 fn the_commit_that_is_signed(rt: HostRuntime) {
-    let tree = [1u8; 65504];
+    let mut tree = [0u8; 65504];
+    let mut public = [0u8; 56];
+    assert_eq!(rt; lms::generate(6, 3, [3; 32], [2; 16], &mut tree), 0);
+    assert_eq!(rt; lms::public_key(6, 3, [2; 16], &tree, &mut public), 0);
     let key = OwnKey {
         id: &[2; 16],
         seed: &[3; 32],
@@ -127,9 +144,11 @@ fn the_commit_that_is_signed(rt: HostRuntime) {
         &mut signature,
         &mut request,
     );
-    check(&rt, &request, 8, 2, &committed(&signature));
+    assert!(rt; is_laid(&request, 8, 2, &committed(&signature)));
     assert_eq!(rt; step.length, 2566);
     assert_eq!(rt; step.server, 1);
-    assert_eq!(rt; signature[..8], [0u8, 0, 0, 5, 0, 0, 0, 3][..]);
-    assert_eq!(rt; signature[8..40], [4u8; 32][..]);
+    assert_eq!(rt;
+        lms::check(6, 3, &public, &signed_text(), &signature),
+        Some(5)
+    );
 }
