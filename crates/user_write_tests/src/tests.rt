@@ -1,5 +1,5 @@
-// The functions of `user_write::requests` as another crate calls them: the write of position 4 with 4 servers, whose labels, by document 01's
-// formula, are 7, 8 and 9, so that servers 3, 4 and 1 own its path.
+// The functions of `user_write::requests` as another crate calls them: the write of position 4 with 4 servers. Its labels, by document
+// 01's formula, are 7, 8 and 9, so that servers 3, 4 and 1 own its path.
 use tree::bytes;
 use tree::setup::Config;
 use user_write::call::OwnKey;
